@@ -1,0 +1,5 @@
+-- Laws that belong to no one function, in reading order.
+pub mod Split
+pub mod Dots
+pub mod Every
+pub mod Verdicts

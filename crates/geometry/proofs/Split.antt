@@ -1,0 +1,55 @@
+-- Case splits on the tests that definitions compute with.
+use mathlib.Core.Path.{_≡_, refl}
+use mathlib.Core.Bool.{Bool, true, false, _&&_, _||_, not}
+use mathlib.Core.Logic.{_⊎_, inl, inr}
+use Prim.Native.Nat.{ℕ, suc, _≤_, _<_}
+use native.Mathlib.Omega.{arith}
+use native.Mathlib.Decide.{decLe}
+use lib.Dec.{leb, ltb, eqb}
+use borrow.Author.Tests.{leb-true, leb-false, ltb-true, ltb-false, eqb-true, eqb-false}
+
+-- a goal about a test, from the goal at each of its two answers
+pub by-bool {ℓ} : (t : Bool) (P : Bool → Type ℓ) → (t ≡ true → P true) → (t ≡ false → P false) → P t
+by-bool true P f g = f refl
+by-bool false P f g = g refl
+
+pub by-leb {ℓ} : (a b : ℕ) (P : Bool → Type ℓ) → (a ≤ b → P true) → (b < a → P false) → P (leb a b)
+by-leb a b P f g = by-bool (leb a b) P (λ e. f (leb-true a b e)) (λ e. g (leb-false a b e))
+
+pub by-ltb {ℓ} : (a b : ℕ) (P : Bool → Type ℓ) → (a < b → P true) → (b ≤ a → P false) → P (ltb a b)
+by-ltb a b P f g = by-bool (ltb a b) P (λ e. f (ltb-true a b e)) (λ e. g (ltb-false a b e))
+
+pub by-eqb {ℓ} : (a b : ℕ) (P : Bool → Type ℓ) → (a ≡ b → P true) → ((a ≡ b → ⊥) → P false) → P (eqb a b)
+by-eqb a b P f g = by-bool (eqb a b) P (λ e. f (eqb-true a b e)) (λ e. g (eqb-false a b e))
+
+pub lt-or-ge : (a b : ℕ) → (a < b) ⊎ (b ≤ a)
+lt-or-ge a b = elim (decLe b a) [ yes h ↦ inr h | no h ↦ inl (omega arith) ]
+
+-- conjunction, disjunction and negation of tests
+pub both : (s t : Bool) → s ≡ true → t ≡ true → (s && t) ≡ true
+both true t p q = q
+both false t p q = p
+
+pub and-fst : (s t : Bool) → (s && t) ≡ true → s ≡ true
+and-fst true t e = refl
+and-fst false t e = e
+
+pub and-snd : (s t : Bool) → (s && t) ≡ true → t ≡ true
+and-snd true t e = e
+and-snd false t e = absurd (mathlib.Core.Bool.false≢true e)
+
+pub clash {ℓ} : {X : Type ℓ} {t : Bool} → t ≡ true → t ≡ false → X
+clash {t = true} p q = absurd (mathlib.Core.Bool.true≢false q)
+clash {t = false} p q = absurd (mathlib.Core.Bool.false≢true p)
+
+pub or-cases : (s t : Bool) → (s || t) ≡ true → (s ≡ true) ⊎ (t ≡ true)
+or-cases true t e = inl refl
+or-cases false t e = inr e
+
+pub or-left : (s t : Bool) → s ≡ true → (s || t) ≡ true
+or-left true t e = refl
+or-left false t e = absurd (mathlib.Core.Bool.false≢true e)
+
+pub or-right : (s t : Bool) → t ≡ true → (s || t) ≡ true
+or-right true t e = refl
+or-right false t e = e

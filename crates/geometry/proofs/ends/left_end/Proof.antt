@@ -1,0 +1,34 @@
+-- `geometry::ends::left_end` meets its contract: an accepted place is more than a length above the least 16-bit number.
+use mathlib.Core.Path.{_≡_, refl, sym, _∙_, ap}
+use Prim.Native.Nat.{ℕ, _≤_, _<_}
+use borrow.Author.Needs.{needs}
+use native.Mathlib.Omega.{arith}
+use mir.Syntax.{w8, w16}
+use mir.Val.{SFits, Fits, toZ, ofZ}
+use mir.ValLaws.{toZ-pos}
+use lib.IntN.{ℤ, pos, _-ℤ_}
+use Rattle.geometry.specs.Dot.{dot}
+use Rattle.geometry.proofs.Dots.{back, held, dot-sub, mag-sub, range-dots, range-mag}
+use Rattle.geometry.proofs.ends.left_end.Statement.{statement}
+use Rattle.geometry.proofs.ends.left_end.Tie as tie
+
+-- what the subtraction computes
+worth : (c : tie.Start) → toZ w16 (ofZ w16 (c .args .place)) -ℤ toZ w16 (c .args .length) ≡ c .args .place -ℤ pos (c .args .length)
+worth c = rw (back (c .fits .place), toZ-pos w16 (c .args .length) (omega arith)) refl
+
+short : (c : tie.Start) → c .args .length ≤ dot (c .args .place)
+short c = omega (arith, range-dots (c .args .place) (c .pre))
+
+cast-result : tie.Need-cast-result
+cast-result c = search needs
+
+sub-result : tie.Need-sub-result
+sub-result c = rw (worth c) (held (mag-sub (c .args .place) (c .args .length) (range-mag (c .args .place) (c .pre)) (short c)))
+
+returns : tie.Need-returns
+returns c =
+    let m = range-mag (c .args .place) (c .pre) in
+    rw (worth c, back (held (mag-sub (c .args .place) (c .args .length) m (short c)))) (dot-sub (c .args .place) (c .args .length) m (short c))
+
+pub left-end-spec : {M : Type 1} → statement M
+left-end-spec = tie.close (tie.spec cast-result sub-result returns)

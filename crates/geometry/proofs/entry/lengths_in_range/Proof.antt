@@ -1,0 +1,50 @@
+-- `geometry::entry::lengths_in_range` meets its contract: the answer for the whole list is that for what is left of it.
+use mathlib.Core.Path.{_≡_, refl, sym, _∙_, ap}
+use Prim.Native.Nat.{_≤_, _-_}
+use native.Mathlib.Omega.{arith}
+use borrow.Author.Needs.{needs}
+use borrow.Author.Tests.{not-true, not-false}
+use lib.IntN.{pos}
+use lib.ListN.{length, drop}
+use Rattle.geometry.specs.Lists.{every}
+use Rattle.geometry.specs.Mark.{lengthInRange}
+use Rattle.geometry.proofs.Every.{every-step, every-fails, every-ends}
+use Rattle.geometry.proofs.entry.lengths_in_range.Statement.{statement}
+use Rattle.geometry.proofs.entry.lengths_in_range.Tie as tie
+
+abbrev Inv-loop : tie.InvT-loop
+Inv-loop lengths i₀ i = (i ≤ length lengths) × (every lengthInRange lengths ≡ every lengthInRange (drop i lengths))
+
+abbrev μ-loop : tie.MeasureT-loop
+μ-loop lengths i₀ i = length lengths - i
+
+loop-holds : tie.Need-loop-holds Inv-loop μ-loop
+loop-holds c = (omega arith, refl)
+
+shared-slice-read-length-in-range : tie.Need-shared-slice-read-length-in-range Inv-loop μ-loop
+shared-slice-read-length-in-range c = omega arith
+
+length-in-range-requires : tie.Need-length-in-range-requires Inv-loop μ-loop
+length-in-range-requires c κs = search needs
+
+returns : tie.Need-returns Inv-loop μ-loop
+returns c = sym (c .before .before .before .before .loop .inv .1 ∙ every-fails lengthInRange _ 0 _ (c .before .before .before .loop-test .taken) (sym (c .before .length-in-range .ensures) ∙ not-true _ (c .if1 .taken)))
+
+add-i : tie.Need-add-i Inv-loop μ-loop
+add-i c = omega arith
+
+loop-less : tie.Need-loop-less Inv-loop μ-loop
+loop-less c = omega arith
+
+loop-again : tie.Need-loop-again Inv-loop μ-loop
+loop-again c = (omega arith, c .before .before .before .before .loop .inv .1 ∙ every-step lengthInRange _ 0 _ (c .before .before .before .loop-test .taken) (sym (c .before .length-in-range .ensures) ∙ not-false _ (c .if1 .left)))
+
+returns-2 : tie.Need-returns-2 Inv-loop μ-loop
+returns-2 c =
+    let e : c .before .loop .i ≡ length (c .before .before .before .args .lengths .now) = omega arith in
+    sym (c .before .loop .inv .1 ∙ rw e (every-ends lengthInRange (c .before .before .before .args .lengths .now) 0))
+
+pub lengths-in-range-spec : {M : Type 1} → statement M
+lengths-in-range-spec =
+    tie.close
+    (tie.spec Inv-loop μ-loop loop-holds shared-slice-read-length-in-range length-in-range-requires returns add-i loop-less loop-again returns-2)

@@ -1,0 +1,22 @@
+// The ends of labels, in signed 16-bit numbers: an accepted place plus or minus a length stays within −30,255 to 30,255.
+ghost use mathlib.Core.Path.{_≡_};
+ghost use mathlib.Core.Bool.{true};
+ghost use Prim.Native.Nat.{_+_, _-_};
+ghost use Rattle.geometry.specs.Dot.{dot};
+ghost use Rattle.geometry.specs.Mark.{placeInRange};
+
+// The left end of a label to the left of its mark.
+pub fn left_end(place: i16, length: u8) -> i16
+    requires { ⌜ placeInRange place ≡ true ⌝ }
+    ensures { λ r. ⌜ dot r ≡ dot place - length ⌝ }
+{
+    place - length as i16
+}
+
+// The right end of a label to the right of its mark.
+pub fn right_end(place: i16, length: u8) -> i16
+    requires { ⌜ placeInRange place ≡ true ⌝ }
+    ensures { λ r. ⌜ dot r ≡ dot place + length ⌝ }
+{
+    place + length as i16
+}

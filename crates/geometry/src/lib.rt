@@ -1,0 +1,3 @@
+// What the passes share: the checks on entry, and the ends of labels.
+pub mod ends;
+pub mod entry;
