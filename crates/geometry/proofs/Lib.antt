@@ -3,3 +3,5 @@ pub mod Split
 pub mod Dots
 pub mod Every
 pub mod Verdicts
+pub mod Rising
+pub mod Machine
