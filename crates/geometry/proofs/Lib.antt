@@ -4,4 +4,5 @@ pub mod Dots
 pub mod Every
 pub mod Verdicts
 pub mod Rising
+pub mod Accepted
 pub mod Machine
