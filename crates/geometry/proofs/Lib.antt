@@ -6,3 +6,4 @@ pub mod Verdicts
 pub mod Rising
 pub mod Accepted
 pub mod Machine
+pub mod Reaches
