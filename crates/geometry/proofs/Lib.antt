@@ -3,7 +3,10 @@ pub mod Split
 pub mod Dots
 pub mod Every
 pub mod Verdicts
-pub mod Rising
 pub mod Accepted
+pub mod Rising
 pub mod Machine
 pub mod Reaches
+pub mod Words
+pub mod Best
+pub mod Whole
