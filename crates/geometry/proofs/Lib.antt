@@ -3,3 +3,6 @@ pub mod Split
 pub mod Dots
 pub mod Every
 pub mod Verdicts
+pub mod AnyWord
+pub mod Sliding
+pub mod WholeEdges

@@ -1,2 +1,3 @@
 -- Definitions that no public contract names.
 pub mod Machine
+pub mod Rising
