@@ -10,3 +10,6 @@ pub mod Reaches
 pub mod Words
 pub mod Best
 pub mod Whole
+pub mod AnyWord
+pub mod Sliding
+pub mod WholeEdges
