@@ -102,24 +102,6 @@ marks-from (z ∷ zs) (l ∷ ls) [] i e f h = absurd (omega arith)
 marks-from (z ∷ zs) (l ∷ ls) (w ∷ ws) zero e f h = refl
 marks-from (z ∷ zs) (l ∷ ls) (w ∷ ws) (suc i) e f h = marks-from zs ls ws i (omega arith) (omega arith) (omega arith)
 
--- every weight is at least 1
-abbrev pub Weighty : List Mark → Type 0
-Weighty [] = Unit {0}
-Weighty (m ∷ ms) = (1 ≤ m .weight) × Weighty ms
-
-weighty : (zs : List ℤ) (ls ws : List ℕ) → every weightInRange ws ≡ true → Weighty (marksOf zs ls ws)
-unfolding marksOf every
-weighty [] ls ws e = tt
-weighty (z ∷ zs) [] ws e = tt
-weighty (z ∷ zs) (l ∷ ls) [] e = tt
-weighty (z ∷ zs) (l ∷ ls) (w ∷ ws) e = (
-  leb-true 1 w (and-fst (leb 1 w) (leb w 1000) (and-fst (weightInRange w) (every weightInRange ws) e)),
-  weighty zs ls ws (and-snd (weightInRange w) (every weightInRange ws) e),
-)
-
-pub accepted-weighty : (limit : ℕ) (zs : List ℤ) (ls ws : List ℕ) → Accepted limit zs ls ws → Weighty (marksOf zs ls ws)
-accepted-weighty limit zs ls ws a = weighty zs ls ws (a .weights-good)
-
 -- a good place leaves more room than any good length
 one-mark : (z : ℤ) (l : ℕ) → placeInRange z ≡ true → lengthInRange l ≡ true → l < dot z
 one-mark z l p q = omega (arith, range-dots z p, leb-true l 240 (and-snd (leb 1 l) (leb l 240) q))

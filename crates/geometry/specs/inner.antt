@@ -1,4 +1,3 @@
 -- Definitions that no public contract names.
 pub mod Rising
 pub mod Machine
-pub mod Rising
