@@ -8,8 +8,11 @@ pub mod Rising
 pub mod Machine
 pub mod Reaches
 pub mod Words
+pub mod Kept
+pub mod LastLabel
 pub mod Best
 pub mod Whole
+pub mod Layouts
 pub mod AnyWord
 pub mod Sliding
 pub mod WholeEdges

@@ -109,17 +109,3 @@ effective-less g r r′ h =
     by-leb r′ 1 (λ t. cond t 1 (r′ + g) ≤ effective g 1 r)
     (λ k. by-leb r 1 (λ t. 1 ≤ cond t 1 (r + g)) (λ _. omega arith) (λ l. omega arith))
     (λ k. by-leb r 1 (λ t. r′ + g ≤ cond t 1 (r + g)) (λ l. absurd (omega arith)) (λ l. omega arith))
-
--- the last mark and the direction of the last position
-unfoldable pub lastMark : Mark → List Mark → Mark
-lastMark m [] = m
-lastMark m (n ∷ ms) = lastMark n ms
-
-abbrev pub directionOf : Position → Direction
-directionOf unlabelled = leftward
-directionOf (at s d) = d
-
-unfoldable pub lastDirection : List Position → Direction
-lastDirection [] = leftward
-lastDirection (p ∷ []) = directionOf p
-lastDirection (p ∷ q ∷ ps) = lastDirection (q ∷ ps)

@@ -14,7 +14,7 @@ use Rattle.geometry.specs.Lists.{every, sumList, wordsOf}
 use Rattle.geometry.specs.Mark.{Mark, marksOf, weightInRange}
 use Rattle.geometry.specs.Position.{Side, above, below, Direction, leftward, rightward, Position, unlabelled, at, ranked, labelled}
 use Rattle.geometry.specs.Overlap.{free, allLabelled}
-use Rattle.geometry.specs.Placing.{firstPlacing, sumOf, bestSum}
+use Rattle.geometry.specs.Placing.{IsPlacing, firstPlacing, sumOf, bestSum}
 use Rattle.geometry.proofs.Split.{both, and-fst, and-snd, clash}
 use Rattle.geometry.proofs.Words.{Member, Spelled, word-listed, word-spelled, found-passes, one-found, never-none}
 use Rattle.geometry.proofs.Best.{free-length, best-bounds, best-attained}
@@ -86,10 +86,6 @@ pub placing-found : (g : ℕ) (ms : List Mark) (c : List Position) → free g ms
 unfolding firstPlacing
 placing-found g ms c f l =
     one-found (free g ms) (wordsOf ranked (length ms)) c (rw (sym (free-length g ms c f)) (word-listed ranked c (labelled-spelled c l))) f
-
-pub record IsPlacing (g : ℕ) (ms : List Mark) (c : List Position) : Type 0 where
-  pub is-free : free g ms c ≡ true
-  pub labels-all : allLabelled c ≡ true
 
 pub found-placing : (g : ℕ) (ms : List Mark) (c : List Position) → firstPlacing g ms ≡ some c → IsPlacing g ms c
 unfolding firstPlacing
