@@ -13,6 +13,8 @@ pub mod LastLabel
 pub mod Best
 pub mod Whole
 pub mod Layouts
+pub mod Beginnings
+pub mod Demand3
 pub mod AnyWord
 pub mod Sliding
 pub mod WholeEdges
