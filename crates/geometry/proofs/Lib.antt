@@ -4,6 +4,7 @@ pub mod Dots
 pub mod Every
 pub mod Verdicts
 pub mod Accepted
+pub mod SignedOverlap
 pub mod Rising
 pub mod Machine
 pub mod Reaches
@@ -15,6 +16,7 @@ pub mod Whole
 pub mod Layouts
 pub mod Beginnings
 pub mod Demand3
+pub mod Starred
 pub mod AnyWord
 pub mod Sliding
 pub mod WholeEdges
