@@ -2,3 +2,6 @@
 pub mod Rest
 pub mod First
 pub mod Fill
+pub mod Rows
+pub mod Walks
+pub mod WalkSteps

@@ -5,3 +5,4 @@
 // allows. One step a mark in each direction, and no step looks at more than one row.
 mod kept;
 mod table;
+mod walk;
