@@ -5,3 +5,4 @@ pub mod Fill
 pub mod Rows
 pub mod Walks
 pub mod WalkSteps
+pub mod Answers

@@ -55,10 +55,10 @@ module _ (a b : ℕ) (m : Mark) (rest : List Mark) (ra : Reach a) (rb : Reach b)
   reach-of leftward = record { some = omega arith; inside = omega arith }
   reach-of rightward = record { some = omega arith; inside = omega arith }
 
-  above-leaves : (d : Direction) → leaves 0 a b m rest (at above d) ≡ (leb a (leftEnd m d) && leb b (greatest 0 (rightEnd m d + 0) rest))
+  pub above-leaves : (d : Direction) → leaves 0 a b m rest (at above d) ≡ (leb a (leftEnd m d) && leb b (greatest 0 (rightEnd m d + 0) rest))
   above-leaves d = ap (λ (t : Bool). leb a (leftEnd m d) && t) (can-within 0 (rightEnd m d + 0) b rest (reach-of d) rb (inside .2))
 
-  below-leaves : (d : Direction) → leaves 0 a b m rest (at below d) ≡ (leb b (leftEnd m d) && leb a (greatest 0 (rightEnd m d + 0) rest))
+  pub below-leaves : (d : Direction) → leaves 0 a b m rest (at below d) ≡ (leb b (leftEnd m d) && leb a (greatest 0 (rightEnd m d + 0) rest))
   below-leaves d = ap (λ (t : Bool). leb b (leftEnd m d) && t) (can-mirror 0 a (rightEnd m d + 0) rest ∙ can-within 0 (rightEnd m d + 0) a rest (reach-of d) ra (inside .2))
 
   pub row-picks : pickByRow a b (leftEnd m leftward) (leftEnd m rightward) leftReach leftReach rightReach ≡ pick 0 a b m rest
