@@ -1,0 +1,33 @@
+-- A number that stands for an outcome: 0 for a value, and else a refusal's own.
+use mathlib.Core.Path.{_≡_, refl, sym, _∙_, ap}
+use Prim.Native.Nat.{ℕ}
+use native.Mathlib.Omega.{arith}
+use Rattle.geometry.specs.Refusal.{Refusal, refusalNumber, Verdict, accepted, refused, numberOf}
+use Rattle.geometry.proofs.Verdicts.{zero-accepted}
+use Rattle.job.specs.Outcome.{Outcome, given, refusal, verdictOf}
+use Rattle.job.specs.inner.Step.{Says}
+
+-- no refusal has the number 0
+pub refusal-nonzero : (r : Refusal) → refusalNumber r ≡ 0 → ⊥
+refusal-nonzero r e = let z : _≡_ {A = ℕ} 0 1 = cc (zero-accepted (refused r) e) in omega arith
+
+pub record IsRefused {A : Type 0} (n : ℕ) (d : Outcome A) : Type 0 where
+  pub which : Refusal
+  pub is : d ≡ refusal which
+  pub number : n ≡ refusalNumber which
+
+pub record IsGiven {A : Type 0} (d : Outcome A) (P : A → Type 0) : Type 0 where
+  pub value : A
+  pub is : d ≡ given value
+  pub holds : P value
+
+pub says-refused : {A : Type 0} (n : ℕ) (d : Outcome A) (P : A → Type 0) → Says n d P → (n ≡ 0 → ⊥) → IsRefused n d
+says-refused n (given a) P s h = absurd (h (s .0))
+says-refused n (refusal r) P s h = record { which = r; is = refl; number = s }
+
+pub says-given : {A : Type 0} (n : ℕ) (d : Outcome A) (P : A → Type 0) → Says n d P → n ≡ 0 → IsGiven d P
+says-given n (given a) P s h = record { value = a; is = refl; holds = s .1 }
+says-given n (refusal r) P s h = absurd (refusal-nonzero r (sym s ∙ h))
+
+pub refused-says : {A : Type 0} (n : ℕ) (d : Outcome A) (P : A → Type 0) → IsRefused n d → Says n d P
+refused-says n d P e = rw (e .is) (e .number)

@@ -1,0 +1,31 @@
+use borrow.Author.Needs.{needs}
+use Rattle.job.proofs.writer.put_word.Statement.{statement}
+use Rattle.job.proofs.writer.put_word.Tie as tie
+use Rattle.job.proofs.writer.put_word.Reads as reads
+use Rattle.job.proofs.writer.put_word.Lts as lts
+
+cast-job : tie.Need-cast-job
+cast-job c = search needs
+
+slice-write-job : tie.Need-slice-write-job
+slice-write-job c = ?
+
+cast-job-2 : tie.Need-cast-job-2
+cast-job-2 c = search needs
+
+add-job : tie.Need-add-job
+add-job c = ?
+
+slice-write-job-2 : tie.Need-slice-write-job-2
+slice-write-job-2 c = ?
+
+same-length : tie.Need-same-length
+same-length c = search needs
+
+returns : tie.Need-returns
+returns c = search needs
+
+pub put-word-spec : {M : Type 1} → statement M
+put-word-spec =
+    tie.close
+    (tie.spec cast-job slice-write-job cast-job-2 add-job slice-write-job-2 same-length returns)
