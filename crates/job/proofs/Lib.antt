@@ -1,7 +1,7 @@
 -- Laws that belong to no one function, in reading order.
 pub mod Places
 pub mod Numbers
-pub mod Fields
 pub mod Outcomes
 pub mod Maps
+pub mod Fields
 pub mod Records
