@@ -5,3 +5,6 @@ pub mod Outcomes
 pub mod Maps
 pub mod Fields
 pub mod Records
+pub mod Headers
+pub mod Turns
+pub mod Stores

@@ -3,7 +3,8 @@ use mathlib.Core.Path.{_≡_, refl, sym, _∙_, ap}
 use mathlib.Core.Bool.{Bool, true, false, cond, _&&_}
 use Prim.Native.Nat.{ℕ, zero, suc, _+_, _-_, _≤_, _<_}
 use native.Mathlib.Omega.{arith}
-use lib.Dec.{leb, ltb}
+use lib.Dec.{leb, ltb, eqb}
+use mathlib.Core.Logic.{_⊎_, inl, inr}
 use lib.IntN.{ℤ, pos, negsuc, subℕ, _+ℤ_, _-ℤ_}
 use lib.Signed.{mag, leZ}
 use mir.Syntax.{w32}
@@ -12,8 +13,9 @@ use mir.ValLaws.{toZ-ofZ}
 use borrow.Author.Tests.{lt-ltb, le-ltb, le-leb, lt-leb}
 use Rattle.geometry.specs.Dot.{dot}
 use Rattle.geometry.specs.Mark.{placeInRange}
-use Rattle.geometry.proofs.Split.{by-ltb, by-leb}
+use Rattle.geometry.proofs.Split.{by-ltb, by-leb, by-eqb, lt-or-ge}
 use Rattle.job.specs.Number.{signed, wordOf}
+use Rattle.job.specs.Decode.{zeroPlace}
 use Rattle.job.specs.inner.Place.{placeOf}
 
 -- below 32,768 dots a place is negative
@@ -114,3 +116,13 @@ difference-is-place d = by-ltb d 32768 (λ t. cond t (negsuc (32768 - suc d)) (p
 pub dot-small : (z : ℤ) → mag z < 32768 → dot z < 65536
 dot-small (pos n) h = omega arith
 dot-small (negsuc n) h = omega arith
+
+-- the place 0 is the dot 32,768
+pub zero-place : (d : ℕ) → zeroPlace (placeOf d) ≡ eqb d 32768
+zero-place d =
+    by-eqb d 32768 (λ t. zeroPlace (placeOf d) ≡ t)
+    (λ e. rw (e, place-high 32768 (omega arith)) refl)
+    (λ n. elim (lt-or-ge d 32768) [
+      | inl h ↦ rw (place-low d h) refl
+      | inr h ↦ rw (place-high d h, le-leb 0 (d - 32768) (omega arith)) (lt-leb (d - 32768) 0 (omega arith))
+    ])

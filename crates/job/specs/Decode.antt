@@ -71,11 +71,22 @@ headerPlace bs = signed (bigEndian (take 2 (drop 2 bs)))
 abbrev pub zeroPlace : ℤ → Bool
 zeroPlace z = leZ (pos 0) z && leZ z (pos 0)
 
--- "reader, header: 1 fewer than 4 bytes; then 4 count over 4,000, first place outside its range, or not 0 at count 0"; "reader,
--- mark lists: 9 a lent list shorter than the count", the shortest of them having `shortest` elements; then the records
-unfoldable pub decode : ℕ → List ℕ → Outcome Marks
-decode shortest bs =
+-- a header: the count of marks and the place of the first
+pub record Header : Type 0 where
+  pub count : ℕ
+  pub place : ℤ
+
+-- "reader, header: 1 fewer than 4 bytes; then 4 count over 4,000, first place outside its range, or not 0 at count 0"
+unfoldable pub decodeHeader : List ℕ → Outcome Header
+decodeHeader bs =
     checked (leb 4 (length bs)) bytesEnd
     (checked (leb (headerCount bs) 4000 && (placeInRange (headerPlace bs) && (not (eqb (headerCount bs) 0) || zeroPlace (headerPlace bs)))) fieldOutOfRange
-    (checked (leb (headerCount bs) shortest) listTooShort
-    (decodeRecords (headerCount bs) true (headerPlace bs) (drop 4 bs))))
+    (given (record { count = headerCount bs; place = headerPlace bs })))
+
+-- the header; then "reader, mark lists: 9 a lent list shorter than the count", the shortest of them having `shortest` elements; then
+-- the records
+unfoldable pub decode : ℕ → List ℕ → Outcome Marks
+decode shortest bs =
+    andThen (decodeHeader bs) (λ h.
+    checked (leb (h .count) shortest) listTooShort
+    (decodeRecords (h .count) true (h .place) (drop 4 bs)))

@@ -1,4 +1,16 @@
 // The job reader: the whole job is checked before a lent list is filled, so that a refusal changes none.
+ghost use mathlib.Core.Path.{_≡_};
+ghost use mathlib.Core.Bool.{true, not, _&&_, _||_};
+ghost use Prim.Native.Nat.{_≤_, min};
+ghost use lib.Dec.{leb, eqb};
+ghost use lib.ListN.{length, drop};
+ghost use Rattle.geometry.specs.Mark.{placeInRange};
+ghost use Rattle.geometry.specs.Refusal.{accepted, numberOf};
+ghost use Rattle.job.specs.Outcome.{verdictOf};
+ghost use Rattle.job.specs.Decode.{zeroPlace, decodeHeader, decodeRecords, decode};
+ghost use Rattle.job.specs.Calls.{ReadCall};
+ghost use Rattle.job.specs.inner.Place.{placeOf};
+ghost use Rattle.job.specs.inner.Step.{Says, HeaderAt, Filled};
 use crate::answer::Read;
 use crate::dots::dot_of_word;
 use crate::dots::place_of;
@@ -12,52 +24,51 @@ const BYTES_LEFT_OVER: u8 = 5;
 const LIST_TOO_SHORT: u8 = 9;
 
 // A header that was read: the count of marks and the dot of the first place, or the number of a refusal.
-pub struct Header {
+pub struct HeaderRead {
     pub number: u8,
     pub count: usize,
     pub dot: u32,
 }
 
-fn read_header(job: &[u8]) -> Header {
+// Whether the count is at most 4,000, the first place in its range, and 0 at count 0.
+fn header_in_range(count: u16, dot: u32) -> bool
+    ensures { λ r. ⌜ r ≡ (leb count 4000 && (placeInRange (placeOf dot) && (not (eqb count 0) || zeroPlace (placeOf dot)))) ⌝ }
+{
+    if 4000 < count {
+        return false;
+    }
+    if dot < 2768 {
+        return false;
+    }
+    if 62768 < dot {
+        return false;
+    }
+    if count != 0 {
+        return true;
+    }
+    dot == 32768
+}
+
+fn read_header(job: &[u8]) -> HeaderRead
+    ensures { λ r. ⌜ Says (r .number) (decodeHeader (now (job .entry))) (HeaderAt (now (job .entry)) r) ⌝ }
+{
     if job.len() < 4 {
-        return Header {
+        return HeaderRead {
             number: BYTES_END,
             count: 0,
             dot: 0,
         };
     }
     let count = number_at(job, 0, 2);
-    if 4000 < count {
-        return Header {
+    let dot = dot_of_word(number_at(job, 2, 2));
+    if !header_in_range(count, dot) {
+        return HeaderRead {
             number: OUT_OF_RANGE,
             count: 0,
             dot: 0,
         };
     }
-    let word = number_at(job, 2, 2);
-    let dot = dot_of_word(word);
-    if dot < 2768 {
-        return Header {
-            number: OUT_OF_RANGE,
-            count: 0,
-            dot: 0,
-        };
-    }
-    if 62768 < dot {
-        return Header {
-            number: OUT_OF_RANGE,
-            count: 0,
-            dot: 0,
-        };
-    }
-    if count == 0 && word != 0 {
-        return Header {
-            number: OUT_OF_RANGE,
-            count: 0,
-            dot: 0,
-        };
-    }
-    Header {
+    HeaderRead {
         number: 0,
         count: count as usize,
         dot,
@@ -65,7 +76,10 @@ fn read_header(job: &[u8]) -> Header {
 }
 
 // The number of the first check that the records do not pass, 0 if they pass all.
-fn check_records(job: &[u8], count: usize, first: u32) -> u8 {
+fn check_records(job: &[u8], count: usize, first: u32) -> u8
+    requires { ⌜ (4 ≤ length (now job)) × (first ≤ 62768) ⌝ }
+    ensures { λ r. ⌜ r ≡ numberOf (verdictOf (decodeRecords count true (placeOf first) (drop 4 (now (job .entry))))) ⌝ }
+{
     let mut at: usize = 4;
     let mut dot = first;
     let mut i: usize = 0;
@@ -92,7 +106,10 @@ fn fill(
     places: &mut [i16],
     lengths: &mut [u8],
     weights: &mut [u16],
-) {
+)
+    requires { ⌜ (4 ≤ length (now job)) × (first ≤ 62768) × (count ≤ length (now places)) × (count ≤ length (now lengths)) × (count ≤ length (now weights)) × (verdictOf (decodeRecords count true (placeOf first) (drop 4 (now job))) ≡ accepted) ⌝ }
+    ensures { λ _. ⌜ Filled (decodeRecords count true (placeOf first) (drop 4 (now (job .entry)))) (now (places .entry)) (now (lengths .entry)) (now (weights .entry)) (now (places .exit)) (now (lengths .exit)) (now (weights .exit)) ⌝ }
+{
     let mut at: usize = 4;
     let mut dot = first;
     let mut i: usize = 0;
@@ -108,7 +125,9 @@ fn fill(
 }
 
 // Reads a job into the three mark lists.
-pub fn read(job: &[u8], places: &mut [i16], lengths: &mut [u8], weights: &mut [u16]) -> Read {
+pub fn read(job: &[u8], places: &mut [i16], lengths: &mut [u8], weights: &mut [u16]) -> Read
+    ensures { λ r. ⌜ ReadCall (decode (min (length (now (places .entry))) (min (length (now (lengths .entry))) (length (now (weights .entry))))) (now (job .entry))) (now (places .entry)) (now (lengths .entry)) (now (weights .entry)) r (now (places .exit)) (now (lengths .exit)) (now (weights .exit)) ⌝ }
+{
     let header = read_header(job);
     if header.number != 0 {
         return Read {
@@ -116,31 +135,29 @@ pub fn read(job: &[u8], places: &mut [i16], lengths: &mut [u8], weights: &mut [u
             count: 0,
         };
     }
-    if places.len() < header.count {
+    let count = header.count;
+    if places.len() < count {
         return Read {
             number: LIST_TOO_SHORT,
             count: 0,
         };
     }
-    if lengths.len() < header.count {
+    if lengths.len() < count {
         return Read {
             number: LIST_TOO_SHORT,
             count: 0,
         };
     }
-    if weights.len() < header.count {
+    if weights.len() < count {
         return Read {
             number: LIST_TOO_SHORT,
             count: 0,
         };
     }
-    let number = check_records(job, header.count, header.dot);
+    let number = check_records(job, count, header.dot);
     if number != 0 {
         return Read { number, count: 0 };
     }
-    fill(job, header.count, header.dot, places, lengths, weights);
-    Read {
-        number: 0,
-        count: header.count,
-    }
+    fill(job, count, header.dot, places, lengths, weights);
+    Read { number: 0, count }
 }
