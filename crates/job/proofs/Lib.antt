@@ -8,3 +8,4 @@ pub mod Records
 pub mod Headers
 pub mod Turns
 pub mod Stores
+pub mod Reading
