@@ -9,3 +9,4 @@ pub mod Headers
 pub mod Turns
 pub mod Stores
 pub mod Reading
+pub mod Encoding

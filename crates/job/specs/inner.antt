@@ -2,3 +2,4 @@
 pub mod Place
 pub mod Step
 pub mod Writable
+pub mod Put
