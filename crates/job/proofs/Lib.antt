@@ -10,3 +10,5 @@ pub mod Turns
 pub mod Stores
 pub mod Reading
 pub mod Encoding
+pub mod Entries
+pub mod Writing
