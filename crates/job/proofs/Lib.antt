@@ -12,3 +12,5 @@ pub mod Reading
 pub mod Encoding
 pub mod Entries
 pub mod Writing
+pub mod WriteRead
+pub mod ReadWrite

@@ -39,3 +39,22 @@ pub bytes-length : (width n : ℕ) → length (bytesOf width n) ≡ width
 unfolding bytesOf
 bytes-length zero n = refl
 bytes-length (suc width) n = ap suc (bytes-length width n)
+
+pub back-one : (n : ℕ) → n < 256 → bigEndian (bytesOf 1 n) ≡ n
+back-one n h = rw (bytes-one n, one-byte (n % 256)) (omega arith)
+
+pub back-two : (n : ℕ) → n < 65536 → bigEndian (bytesOf 2 n) ≡ n
+back-two n h = rw (bytes-two n, two-bytes (n / 256 % 256) (n % 256)) (omega arith)
+
+mod-small : (a : ℕ) → a < 256 → a % 256 ≡ a
+mod-small a h = omega arith
+
+-- read and written back
+pub same-one : (a : ℕ) → a < 256 → bytesOf 1 (bigEndian (a ∷ [])) ≡ a ∷ []
+same-one a h = rw (bytes-one (bigEndian (a ∷ [])), one-byte a) (ap (λ (k : ℕ). k ∷ []) (mod-small a h))
+
+pub same-two : (a b : ℕ) → a < 256 → b < 256 → bytesOf 2 (bigEndian (a ∷ b ∷ [])) ≡ a ∷ b ∷ []
+same-two a b h k =
+    let e : (a * 256 + b) / 256 % 256 ≡ a = omega arith in
+    let f : (a * 256 + b) % 256 ≡ b = omega arith in
+    rw (bytes-two (bigEndian (a ∷ b ∷ [])), two-bytes a b, e, f) refl

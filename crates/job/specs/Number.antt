@@ -1,10 +1,10 @@
 -- "Big-endian." A number of a job as its bytes, the most significant first.
-use Prim.Native.Nat.{ℕ, zero, suc, _+_, _-_, _*_, _/_, _%_, _^_}
+use Prim.Native.Nat.{ℕ, zero, suc, _+_, _-_, _*_, _/_, _%_, _^_, _<_}
 use mathlib.Core.List.{List, [], _∷_}
 use mathlib.Core.Bool.{Bool, cond}
 use lib.Dec.{ltb}
 use lib.IntN.{ℤ, pos, negsuc}
-use lib.ListN.{length}
+use lib.ListN.{length, getD}
 
 -- the number that bytes stand for
 unfoldable pub bigEndian : List ℕ → ℕ
@@ -23,3 +23,7 @@ signed word = cond (ltb word 32768) (pos word) (negsuc (65535 - word))
 unfoldable pub wordOf : ℤ → ℕ
 wordOf (pos n) = n
 wordOf (negsuc n) = 65535 - n
+
+-- each of them is a byte
+abbrev pub Bytes : List ℕ → Type 0
+Bytes bs = (i : ℕ) → getD bs i 0 < 256

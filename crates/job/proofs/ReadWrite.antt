@@ -1,0 +1,1 @@
+-- Read and written back.
