@@ -7,7 +7,7 @@ use native.Mathlib.Omega.{arith}
 use borrow.Author.Tests.{eq-eqb, ne-eqb}
 use lib.Dec.{eqb}
 use Rattle.geometry.specs.Lists.{anyOf}
-use Rattle.geometry.proofs.Split.{by-eqb, lt-or-ge, or-left, or-right}
+use Rattle.geometry.proofs.Split.{lt-or-ge, or-left, or-right}
 use Rattle.job.specs.Format.{bitStands, strayBits}
 
 -- a byte below 8 has none of the bits 3 to 7, and one from 8 on has one of them
@@ -77,13 +77,12 @@ bits-map =
 
 -- a byte below 8 is its three bits
 pub map-bits : (map : ℕ) → map < 8 → bits (not (bitStands 0 map)) (not (bitStands 1 map)) (not (bitStands 2 map)) ≡ map
-map-bits map h =
-    by-eqb (map / 1 % 2) 1 (λ a. bits (not a) (not (bitStands 1 map)) (not (bitStands 2 map)) ≡ map)
-    (λ p.
-    by-eqb (map / 2 % 2) 1 (λ b. bits false (not b) (not (bitStands 2 map)) ≡ map)
-    (λ q. by-eqb (map / 4 % 2) 1 (λ c. bits false false (not c) ≡ map) (λ r. omega arith) (λ r. omega arith))
-    (λ q. by-eqb (map / 4 % 2) 1 (λ c. bits false true (not c) ≡ map) (λ r. omega arith) (λ r. omega arith)))
-    (λ p.
-    by-eqb (map / 2 % 2) 1 (λ b. bits true (not b) (not (bitStands 2 map)) ≡ map)
-    (λ q. by-eqb (map / 4 % 2) 1 (λ c. bits true false (not c) ≡ map) (λ r. omega arith) (λ r. omega arith))
-    (λ q. by-eqb (map / 4 % 2) 1 (λ c. bits true true (not c) ≡ map) (λ r. omega arith) (λ r. omega arith)))
+map-bits zero h = refl
+map-bits (suc zero) h = refl
+map-bits (suc (suc zero)) h = refl
+map-bits (suc (suc (suc zero))) h = refl
+map-bits (suc (suc (suc (suc zero)))) h = refl
+map-bits (suc (suc (suc (suc (suc zero))))) h = refl
+map-bits (suc (suc (suc (suc (suc (suc zero)))))) h = refl
+map-bits (suc (suc (suc (suc (suc (suc (suc zero))))))) h = refl
+map-bits (suc (suc (suc (suc (suc (suc (suc (suc map)))))))) h = absurd (omega arith)
