@@ -14,3 +14,4 @@ pub mod Entries
 pub mod Writing
 pub mod WriteRead
 pub mod ReadWrite
+pub mod RoundTrips

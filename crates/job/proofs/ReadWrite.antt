@@ -30,7 +30,7 @@ use Rattle.job.proofs.Maps.{bits, map-bits, some-stray}
 use Rattle.job.proofs.Turns.{split-records, no-records}
 use Rattle.job.proofs.Encoding.{field-none, field-some}
 
-bytes-drop : (k : ℕ) (bs : List ℕ) → Bytes bs → Bytes (drop k bs)
+pub bytes-drop : (k : ℕ) (bs : List ℕ) → Bytes bs → Bytes (drop k bs)
 bytes-drop k bs h i = rw (getD-drop k bs i 0) (h (k + i))
 
 -- the number at the front, of one byte or of two

@@ -4,17 +4,18 @@ use mathlib.Core.Bool.{Bool, true, false}
 use mathlib.Core.List.{List, _++_}
 use Prim.Native.Nat.{ℕ, _+_, _≤_, _<_}
 use native.Mathlib.Omega.{arith}
-use borrow.Author.Tests.{le-leb, lt-leb}
+use borrow.Author.Tests.{leb-true, le-leb, lt-leb}
+use lib.Dec.{leb}
 use lib.IntN.{ℤ}
 use lib.ListN.{length}
 use lib.Seq.{sets}
 use Rattle.geometry.specs.Refusal.{Refusal, Verdict, accepted, refused, numberOf, listTooShort}
 use Rattle.geometry.specs.Entry.{entry}
 use Rattle.job.specs.Number.{bytesOf, wordOf}
-use Rattle.job.specs.Outcome.{Outcome, given, refusal}
+use Rattle.job.specs.Outcome.{Outcome, given, refusal, checked}
 use Rattle.job.specs.Encode.{encodeRecords, firstPlace, encode, afterEntry, jobFor}
 use Rattle.job.specs.Calls.{WriteCall}
-use Rattle.job.proofs.Outcomes.{IsRefused}
+use Rattle.job.proofs.Outcomes.{IsRefused, checked-given, given-same}
 use Rattle.job.proofs.Numbers.{bytes-length}
 use Rattle.job.proofs.Stores.{stores-append, stores-written}
 
@@ -54,3 +55,21 @@ job-stores zs ls ws old one two three word w p q r =
     let f : sets one 2 (bytesOf 2 word ++ rest) ≡ sets two 4 rest
     = stores-append (bytesOf 2 word) rest one 2 ∙ rw (bytes-length 2 word, q) refl in
     rw (← w) (r ∙ sym (e ∙ f))
+
+-- a job that is given comes from marks that pass the checks on entry, and has room
+after-given : {A : Type 0} (v : Verdict) (o : Outcome A) (a : A) → afterEntry v o ≡ given a → (v ≡ accepted) × (o ≡ given a)
+after-given accepted o a e = (refl, e)
+after-given (refused r) o a e = let z : _≡_ {A = ℕ} 0 1 = cc in absurd (omega arith)
+
+pub record Made (room : ℕ) (zs : List ℤ) (ls ws bs : List ℕ) : Type 0 where
+  pub entered : entry 4000 zs ls ws ≡ accepted
+  pub bytes-are : encode zs ls ws ≡ bs
+  pub enough : length bs ≤ room
+
+pub job-inverse : (room : ℕ) (zs : List ℤ) (ls ws bs : List ℕ) → jobFor room zs ls ws ≡ given bs → Made room zs ls ws bs
+unfolding jobFor
+job-inverse room zs ls ws bs e =
+    let p = after-given (entry 4000 zs ls ws) (checked (leb (length (encode zs ls ws)) room) listTooShort (given (encode zs ls ws))) bs e in
+    let q = checked-given (leb (length (encode zs ls ws)) room) listTooShort (given (encode zs ls ws)) bs (p .1) in
+    let s = given-same (encode zs ls ws) bs (q .after) in
+    record { entered = p .0; bytes-are = s; enough = rw s at (leb-true (length (encode zs ls ws)) room (q .passes)) }
