@@ -45,3 +45,6 @@ at-dot-low d h = rw (lt-ltb d 32768 h) refl
 
 pub at-dot-high : (d : ℕ) → 32768 ≤ d → atDot d ≡ pos (d - 32768)
 at-dot-high d h = rw (le-ltb d 32768 h) refl
+
+pub at-dot-small : (d : ℕ) → d < 65536 → mag (atDot d) < 32768
+at-dot-small d h = by-ltb d 32768 (λ c. mag (cond c (negsuc (32767 - d)) (pos (d - 32768))) < 32768) (λ l. omega arith) (λ l. omega arith)

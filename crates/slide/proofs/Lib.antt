@@ -8,3 +8,4 @@ pub mod Plain
 pub mod Rows
 pub mod StripTable
 pub mod Coordinates
+pub mod WalkState
