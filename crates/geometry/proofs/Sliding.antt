@@ -17,6 +17,7 @@ use Rattle.geometry.specs.Position.{Side, above, below, ownReach, aboveA
 use Rattle.geometry.specs.Sliding.{EdgeAllowed, EdgesApart, ApartOnSide, SlidingPlacing, Slides, leftmostEdge, edgesFrom, leftmostEdges, noneBeyond, slidesWhole}
 use Rattle.geometry.specs.inner.Rising.{Rising}
 use Rattle.geometry.proofs.Split.{both, and-fst, and-snd}
+use Rattle.geometry.proofs.Rising.{rising-rest, rising-first}
 use Rattle.geometry.proofs.AnyWord.{bothSides, any-sides, Found, sides-found}
 
 -- n times the greater of two numbers is within what both allow
@@ -32,26 +33,18 @@ after-side below above r a b P f x = x
 after-side below below r a b P f x = f refl
 
 -- the marks lie beyond p, and their labels are short
-abbrev Beyond : ℕ → List Mark → Type 0
-Beyond p [] = Unit {0}
-Beyond p (k ∷ ms) = (p < k .place) × (k .labelLength < k .place) × Beyond p ms
+abbrev ShortBeyond : ℕ → List Mark → Type 0
+ShortBeyond p [] = Unit {0}
+ShortBeyond p (k ∷ ms) = (p < k .place) × (k .labelLength < k .place) × ShortBeyond p ms
 
-rising-beyond : (p : ℕ) (m : Mark) (ms : List Mark) → p < m .place → Rising (m ∷ ms) → Beyond p (m ∷ ms)
-rising-beyond p m [] h r = (h, r, tt)
-rising-beyond p m (k ∷ ms) h r = (h, r .0, rising-beyond p k ms (omega arith) (r .2))
+rising-short : (p : ℕ) (m : Mark) (ms : List Mark) → p < m .place → Rising (m ∷ ms) → ShortBeyond p (m ∷ ms)
+rising-short p m [] h r = (h, r, tt)
+rising-short p m (k ∷ ms) h r = (h, r .0, rising-short p k ms (omega arith) (r .2))
 
 -- the marks behind the first lie beyond it
-later : (m : Mark) (ms : List Mark) → Rising (m ∷ ms) → Beyond (m .place) ms
+later : (m : Mark) (ms : List Mark) → Rising (m ∷ ms) → ShortBeyond (m .place) ms
 later m [] r = tt
-later m (k ∷ ms) r = rising-beyond (m .place) k ms (r .1) (r .2)
-
-pub rising-rest : (m : Mark) (ms : List Mark) → Rising (m ∷ ms) → Rising ms
-rising-rest m [] r = tt
-rising-rest m (k ∷ ms) r = r .2
-
-pub rising-first : (m : Mark) (ms : List Mark) → Rising (m ∷ ms) → m .labelLength < m .place
-rising-first m [] r = r
-rising-first m (k ∷ ms) r = r .0
+later m (k ∷ ms) r = rising-short (m .place) k ms (r .1) (r .2)
 
 -- Labels on one side keep the order of their marks.
 in-order : (g n : ℕ) (m k : Mark) (e f : ℕ) → 1 ≤ n → m .place < k .place → k .labelLength < k .place → e ≤ n * m .place → EdgeAllowed n k f → EdgesApart g n m e k f
@@ -70,7 +63,7 @@ PastReaches n a b (s ∷ ss) (e ∷ es) = (n * ownReach s a b ≤ e) × PastReac
 
 -- and still is behind a label that reaches to r
 past-label : (g n : ℕ) (m : Mark) (s : Side) (e r a b : ℕ) (ms : List Mark) (ss : List Side) (es : List ℕ) → 1 ≤ n → e ≤ n * m .place → n * r ≤ e + n * (m .labelLength + g)
-    → Beyond (m .place) ms → PastReaches n a b ss es → ApartOnSide g n m s e ms ss es → SlidingPlacing g n ms ss es
+    → ShortBeyond (m .place) ms → PastReaches n a b ss es → ApartOnSide g n m s e ms ss es → SlidingPlacing g n ms ss es
     → PastReaches n (aboveAfter s r a) (belowAfter s r b) ss es
 past-label g n m s e r a b [] [] [] pos right reach rise past apart placed = tt
 past-label g n m s e r a b [] [] (f ∷ es) pos right reach rise past apart placed = absurd placed

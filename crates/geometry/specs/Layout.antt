@@ -1,15 +1,16 @@
 -- "Unbeaten part layouts", by enumeration. (Part layout = k-realization; unbeaten = Pareto-minimal.)
 use Prim.Native.Nat.{ℕ, suc, max, min}
+use mathlib.Core.Path.{_≡_}
 use mathlib.Core.List.{List, [], _∷_, map}
 use mathlib.Core.Bool.{Bool, true, false, not, cond, _&&_, _||_}
 use lib.Dec.{leb, ltb, eqb}
-use lib.ListN.{length}
+use lib.ListN.{length, take}
 use Rattle.geometry.specs.Lists.{every, anyOf, keep}
 use Rattle.geometry.specs.Dot.{emptyReach}
 use Rattle.geometry.specs.Mark.{Mark}
 use Rattle.geometry.specs.Position.{Side, above, below, Position, unlabelled, at, sameSide}
 use Rattle.geometry.specs.Overlap.{rightEnd, free}
-use Rattle.geometry.specs.Placing.{placings}
+use Rattle.geometry.specs.Placing.{IsPlacing, placings}
 
 -- "A part layout places all of the first k marks in four positions, no two labels overlapping": those of the marks ms
 unfoldable pub partLayouts : ℕ → List Mark → List (List Position)
@@ -55,3 +56,10 @@ distinct (p ∷ ps) = cond (anyOf (samePair p) ps) (distinct ps) (p ∷ distinct
 -- those k marks beats."
 unfoldable pub unbeatenCount : ℕ → List Mark → ℕ
 unbeatenCount g ms = length (distinct (map (pairOf ms) (keep (unbeaten g ms) (partLayouts g ms))))
+
+-- "The placing begins with the part layout that its first k positions form": a placing that begins with an unbeaten one
+pub record BeginsUnbeaten (g k : ℕ) (ms : List Mark) : Type 0 where
+  pub placing : List Position
+  pub is-placing : IsPlacing g ms placing
+  pub part-layout : IsPlacing g (take k ms) (take k placing)
+  pub part-unbeaten : unbeaten g (take k ms) (take k placing) ≡ true

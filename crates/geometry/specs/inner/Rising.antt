@@ -1,4 +1,4 @@
--- "Places rise strictly along the strip", of marks whose labels begin to the right of dot 0, as those of every accepted mark do.
+-- Marks whose places rise strictly and whose labels end inside the coordinates: what the checks on entry leave of a strip.
 use Prim.Native.Nat.{_<_}
 use mathlib.Core.List.{List, [], _∷_}
 use Rattle.geometry.specs.Mark.{Mark}
