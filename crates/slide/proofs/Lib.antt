@@ -9,3 +9,5 @@ pub mod Rows
 pub mod StripTable
 pub mod Coordinates
 pub mod WalkState
+pub mod Answers
+pub mod Contract

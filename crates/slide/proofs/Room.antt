@@ -49,11 +49,11 @@ room-falls : (g t u : ℕ) (ms : List Mark) → Exact g ms → Inside g ms → t
 room-falls g t u ms exact inside h small =
     ⊎-elim
     (λ less.
-      let within : room g u ms ≤ noBound = room-within g u ms inside in
-      let o : ℕ = room g t ms in
-      let at-u : slideable g u o ms ≡ true = sym (exact u o small (omega arith)) ∙ lt-ltb o (room g u ms) less in
-      let again : o < room g t ms = ltb-true o (room g t ms) (exact t o (omega arith) (omega arith) ∙ smaller-reach g u t o ms h at-u) in
-      absurd (omega arith))
+    let within : room g u ms ≤ noBound = room-within g u ms inside in
+    let o : ℕ = room g t ms in
+    let at-u : slideable g u o ms ≡ true = sym (exact u o small (omega arith)) ∙ lt-ltb o (room g u ms) less in
+    let again : o < room g t ms = ltb-true o (room g t ms) (exact t o (omega arith) (omega arith) ∙ smaller-reach g u t o ms h at-u) in
+    absurd (omega arith))
     (λ not-less. not-less)
     (lt-or-ge (room g t ms) (room g u ms))
 
@@ -78,10 +78,10 @@ other-exact g t o m ms exact inside short high small =
     let k : ℕ = furthest f t (suc (m .labelLength)) in
     by-leb o (m .place) (λ c. ltb o (otherSide m k) ≡ (c && slideable g t (reachPast g m o) ms))
     (λ h.
-      let r : reachPast g m o ≡ reachAt g m (slidBy m o) = reach-past g m o short in
-      sym (slide-bound m o k)
-      ∙ sym (furthest-exact f t (suc (m .labelLength)) (λ d e u v. room-falls g (reachAt g m d) (reachAt g m e) ms exact inside (omega arith) (omega arith)) (slidBy m o) (omega arith))
-      ∙ rw r (exact (reachAt g m (slidBy m o)) t (omega arith) small ∙ exchanged g (reachAt g m (slidBy m o)) t ms))
+    let r : reachPast g m o ≡ reachAt g m (slidBy m o) = reach-past g m o short in
+    sym (slide-bound m o k)
+    ∙ sym (furthest-exact f t (suc (m .labelLength)) (λ d e u v. room-falls g (reachAt g m d) (reachAt g m e) ms exact inside (omega arith) (omega arith)) (slidBy m o) (omega arith))
+    ∙ rw r (exact (reachAt g m (slidBy m o)) t (omega arith) small ∙ exchanged g (reachAt g m (slidBy m o)) t ms))
     (λ h. le-ltb o (otherSide m k) (omega (arith, other-within m k short (furthest-within f t (suc (m .labelLength))))))
 
 pub room-exact : (g : ℕ) (ms : List Mark) → Inside g ms → Exact g ms

@@ -26,11 +26,11 @@ filled-more old new row d v value filled small inside is =
     let long : length new ≡ length old = filled .same-length in
     record {
       cells = λ e h. ⊎-elim
-        (λ before. getD-set-other new (row + d) (row + e) v 0 (omega arith) ∙ filled .cells e before)
-        (λ here. let at : e ≡ d = omega arith in rw at (getD-set-same new (row + d) v 0 (omega arith) ∙ is))
-        (lt-or-ge e d);
+          (λ before. getD-set-other new (row + d) (row + e) v 0 (omega arith) ∙ filled .cells e before)
+          (λ here. let at : e ≡ d = omega arith in rw at (getD-set-same new (row + d) v 0 (omega arith) ∙ is))
+          (lt-or-ge e d);
       behind = drop-set-lt (row + 241) new (row + d) v (omega arith) ∙ filled .behind;
-      same-length = length-set new (row + d) v ∙ long
+      same-length = length-set new (row + d) v ∙ long;
     }
 
 -- the next row reads as it did
@@ -62,23 +62,23 @@ module _
     (scanned : Scanned old new row place m d slides)
     (found-is : found ≡ furthest (rowFrom new (row + 241)) (place + d) slides)
   where
-  found-before : found ≡ furthest (rowFrom old (row + 241)) (place + d) slides
-  found-before = found-is ∙ ap (λ (f : ℕ → ℕ). furthest f (place + d) slides) (next-row (scanned .filled))
+    found-before : found ≡ furthest (rowFrom old (row + 241)) (place + d) slides
+    found-before = found-is ∙ ap (λ (f : ℕ → ℕ). furthest f (place + d) slides) (next-row (scanned .filled))
 
-  pub found-within : found ≤ m .labelLength + 1
-  found-within = omega (arith, found-is, furthest-within (rowFrom new (row + 241)) (place + d) slides, scanned .within)
+    pub found-within : found ≤ m .labelLength + 1
+    found-within = omega (arith, found-is, furthest-within (rowFrom new (row + 241)) (place + d) slides, scanned .within)
 
-  pub scanned-more : own ≡ ownSide m (place + d) (rowFrom new (row + 241)) → other ≡ otherSide m found → v ≡ max own other → d < 241 → row + d < length old
-      → Scanned old (set new (row + d) v) row place m (d + 1) found
-  scanned-more own-is other-is v-is small inside =
-      let own-before : own ≡ ownSide m (place + d) (rowFrom old (row + 241)) = own-is ∙ ap (ownSide m (place + d)) (next-row (scanned .filled)) in
-      record {
-        filled = filled-more old new row d v _ (scanned .filled) small inside
-          (v-is ∙ ap₂ max own-before (other-is ∙ ap (otherSide m) (found-before ∙ sym (scanned .left))));
-        within = found-within;
-        left = furthest-resumed (rowFrom old (row + 241)) (place + d) (place + (d + 1)) (suc (m .labelLength)) (omega arith)
-          ∙ ap (furthest (rowFrom old (row + 241)) (place + (d + 1))) (scanned .left ∙ sym found-before)
-      }
+    pub scanned-more : own ≡ ownSide m (place + d) (rowFrom new (row + 241)) → other ≡ otherSide m found → v ≡ max own other → d < 241 → row + d < length old
+        → Scanned old (set new (row + d) v) row place m (d + 1) found
+    scanned-more own-is other-is v-is small inside =
+        let own-before : own ≡ ownSide m (place + d) (rowFrom old (row + 241)) = own-is ∙ ap (ownSide m (place + d)) (next-row (scanned .filled)) in
+        record {
+          filled = filled-more old new row d v _ (scanned .filled) small inside
+              (v-is ∙ ap₂ max own-before (other-is ∙ ap (otherSide m) (found-before ∙ sym (scanned .left))));
+          within = found-within;
+          left = furthest-resumed (rowFrom old (row + 241)) (place + d) (place + (d + 1)) (suc (m .labelLength)) (omega arith)
+              ∙ ap (furthest (rowFrom old (row + 241)) (place + (d + 1))) (scanned .left ∙ sym found-before);
+        }
 
 -- a filled row in front of the table of the rest
 pub row-before : (old new : List ℕ) (row : ℕ) (m : Mark) (ms : List Mark) (value : ℕ → ℕ) → FilledTo old new row (m .labelLength + 1) value

@@ -35,8 +35,8 @@ smaller-reach g a c b [] h e = refl
 smaller-reach g a c b (m ∷ ms) h e =
     ⊎-elim
     (λ l.
-      let fits : a ≤ m .place = leb-true a (m .place) (and-fst (leb a (m .place)) _ l) in
-      or-left _ _ (both _ _ (le-leb c (m .place) (omega arith)) (smaller-reach g (reachPast g m a) (reachPast g m c) b ms (omega arith) (and-snd (leb a (m .place)) _ l))))
+    let fits : a ≤ m .place = leb-true a (m .place) (and-fst (leb a (m .place)) _ l) in
+    or-left _ _ (both _ _ (le-leb c (m .place) (omega arith)) (smaller-reach g (reachPast g m a) (reachPast g m c) b ms (omega arith) (and-snd (leb a (m .place)) _ l))))
     (λ r. or-right (leb c (m .place) && slideable g (reachPast g m c) b ms) _ (both _ _ (and-fst (leb b (m .place)) _ r) (smaller-reach g a c (reachPast g m b) ms h (and-snd (leb b (m .place)) _ r))))
     (or-cases _ _ e)
 

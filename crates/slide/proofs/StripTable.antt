@@ -46,7 +46,7 @@ module _ (zs : List ℤ) (ls : List ℕ) (checked : Checked zs ls) where
         record {
           table = rw (marks-from k (omega arith), marks-end (k + 1) (omega arith)) (row-before old new (k * 241) (markHere k) [] _ filled (λ d h. last-right (markHere k) d) tt);
           beyond = unchanged-further old new (k * 241 + 241) 30000 (omega (arith, checked .few)) (filled .behind);
-          same-length = filled .same-length
+          same-length = filled .same-length;
         }
 
     -- a row before the rows of the later marks; p and q are the dots of its mark and of the next
@@ -60,9 +60,9 @@ module _ (zs : List ℤ) (ls : List ℕ) (checked : Checked zs ls) where
         let here : FilledTo old new (k * 241) (getD ls k 0 + 1) (λ d. roomBefore (markHere (k + 1)) (dot (getD zs k (pos 0)) + d) (rowFrom old (k * 241 + 241))) = rw (← p-is, ← q-is) filled in
         record {
           table = rw (marks-from k (omega arith), marks-from (k + 1) more)
-            (row-before old new (k * 241) (markHere k) _ _ here (λ d h. row-right old (k * 241 + 241) (markHere k) (markHere (k + 1)) _ d (short-label (k + 1) more) rest) rest);
+              (row-before old new (k * 241) (markHere k) _ _ here (λ d h. row-right old (k * 241 + 241) (markHere k) (markHere (k + 1)) _ d (short-label (k + 1) more) rest) rest);
           beyond = unchanged-further old new (k * 241 + 241) 30000 (omega (arith, checked .few)) (filled .behind);
-          same-length = filled .same-length
+          same-length = filled .same-length;
         }
 
 -- what a later step kept is kept from the start

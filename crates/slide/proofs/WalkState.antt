@@ -95,7 +95,7 @@ module _ (zs : List ℤ) (ls : List ℕ) where
     walked-all oldSides sides oldEdges edges a b walked =
         record {
           sides = walked .sides-so-far ∙ rw (← codes-length, take-length sideCodes) refl;
-          edges = walked .edges-so-far ∙ rw (← coordinates-length, take-length coordinates) refl
+          edges = walked .edges-so-far ∙ rw (← coordinates-length, take-length coordinates) refl;
         }
 
     module _
@@ -106,61 +106,61 @@ module _ (zs : List ℤ) (ls : List ℕ) where
         (walked : WalkedTo oldSides sides oldEdges edges a b i)
         (more : i < length zs)
       where
-      abbrev here : Mark
-      here = markAt (dot (getD zs i (pos 0))) (getD ls i 0)
+        abbrev here : Mark
+        here = markAt (dot (getD zs i (pos 0))) (getD ls i 0)
 
-      abbrev rest : List Mark
-      rest = drop (i + 1) (plainMarks zs ls)
+        abbrev rest : List Mark
+        rest = drop (i + 1) (plainMarks zs ls)
 
-      left-marks : drop i (plainMarks zs ls) ≡ here ∷ rest
-      left-marks = marks-from zs ls checked i more
+        left-marks : drop i (plainMarks zs ls) ≡ here ∷ rest
+        left-marks = marks-from zs ls checked i more
 
-      inside : Inside 0 (here ∷ rest)
-      inside = subst (Inside 0) left-marks (inside-drop 0 i (plainMarks zs ls) (plain-inside zs ls (checked .places-good) (checked .lengths-good)))
+        inside : Inside 0 (here ∷ rest)
+        inside = subst (Inside 0) left-marks (inside-drop 0 i (plainMarks zs ls) (plain-inside zs ls (checked .places-good) (checked .lengths-good)))
 
-      goes : Goes 0 a b here rest (sideBefore 0 a b here rest)
-      goes = walk-goes 0 a b here rest inside (walked .b-small) (rw left-marks at (walked .going))
+        goes : Goes 0 a b here rest (sideBefore 0 a b here rest)
+        goes = walk-goes 0 a b here rest inside (walked .b-small) (rw left-marks at (walked .going))
 
-      same-test : takesAbove a b here (rowFrom work (i * 241)) ≡ takesAbove a b here (λ d. room 0 (reachAt 0 here d) rest)
-      same-test = takes-same work (i * 241) a b here rest (inside .0) (table-row work (plainMarks zs ls) i here rest table left-marks)
+        same-test : takesAbove a b here (rowFrom work (i * 241)) ≡ takesAbove a b here (λ d. room 0 (reachAt 0 here d) rest)
+        same-test = takes-same work (i * 241) a b here rest (inside .0) (table-row work (plainMarks zs ls) i here rest table left-marks)
 
-      pub step-ready : 14460 ≤ length work → StepReady (rowFrom work (i * 241)) (length work) (i * 241) (dot (getD zs i (pos 0))) (getD ls i 0) a b
-      step-ready long =
-          let few = checked .few in
-          let short = label-range zs ls checked i more in
-          let dots = dot-range zs ls checked i more in
-          record {
-            row-there = omega arith;
-            short = omega arith;
-            high = omega arith;
-            one-free = λ e. below-free _ 0 a b here rest goes (sym same-test ∙ e)
-          }
+        pub step-ready : 14460 ≤ length work → StepReady (rowFrom work (i * 241)) (length work) (i * 241) (dot (getD zs i (pos 0))) (getD ls i 0) a b
+        step-ready long =
+            let few = checked .few in
+            let short = label-range zs ls checked i more in
+            let dots = dot-range zs ls checked i more in
+            record {
+              row-there = omega arith;
+              short = omega arith;
+              high = omega arith;
+              one-free = λ e. below-free _ 0 a b here rest goes (sym same-test ∙ e);
+            }
 
-      -- the state after the label that the definition gives
-      walked-label : (s : Side) → s ≡ sideBefore 0 a b here rest → length zs ≤ length oldSides → length zs ≤ length oldEdges
-          → WalkedTo oldSides (set sides i (sideCode s)) oldEdges (set edges i (atDot (leftmostEdge here (ownReach s a b))))
-          (aboveAfter s (reachPast 0 here (ownReach s a b)) a) (belowAfter s (reachPast 0 here (ownReach s a b)) b) (i + 1)
-      walked-label s s-is sides-long edges-long =
-          let r : ℕ = reachPast 0 here (ownReach s a b) in
-          let go : Goes 0 a b here rest s = rw s-is goes in
-          let small : r < noBound = reach-small 0 here rest (ownReach s a b) inside (go .0) in
-          let sides-head : Head sideCodes i 0 (sideCode s) (map sideCode (sidesFrom 0 (aboveAfter s r a) (belowAfter s r b) rest)) =
+        -- the state after the label that the definition gives
+        walked-label : (s : Side) → s ≡ sideBefore 0 a b here rest → length zs ≤ length oldSides → length zs ≤ length oldEdges
+            → WalkedTo oldSides (set sides i (sideCode s)) oldEdges (set edges i (atDot (leftmostEdge here (ownReach s a b))))
+            (aboveAfter s (reachPast 0 here (ownReach s a b)) a) (belowAfter s (reachPast 0 here (ownReach s a b)) b) (i + 1)
+        walked-label s s-is sides-long edges-long =
+            let r : ℕ = reachPast 0 here (ownReach s a b) in
+            let go : Goes 0 a b here rest s = rw s-is goes in
+            let small : r < noBound = reach-small 0 here rest (ownReach s a b) inside (go .0) in
+            let sides-head : Head sideCodes i 0 (sideCode s) (map sideCode (sidesFrom 0 (aboveAfter s r a) (belowAfter s r b) rest)) =
             drop-head sideCodes i 0 _ _ (walked .sides-left ∙ rw (left-marks, sides-cons 0 a b here rest s s-is) refl) in
-          let edges-head : Head coordinates i (pos 0) (atDot (leftmostEdge here (ownReach s a b)))
+            let edges-head : Head coordinates i (pos 0) (atDot (leftmostEdge here (ownReach s a b)))
             (map atDot (edgesFrom 0 (aboveAfter s r a) (belowAfter s r b) rest (sidesFrom 0 (aboveAfter s r a) (belowAfter s r b) rest))) =
             drop-head coordinates i (pos 0) _ _ (walked .edges-left ∙ rw (left-marks, edges-cons 0 a b here rest s s-is) refl) in
-          record {
-            a-small = above-small s r a noBound small (walked .a-small);
-            b-small = below-small s r b noBound small (walked .b-small);
-            going = go .1;
-            sides-left = ap (λ n. drop n sideCodes) (add-one i) ∙ sides-head .rest;
-            edges-left = ap (λ n. drop n coordinates) (add-one i) ∙ edges-head .rest;
-            sides-so-far = rw (walked .sides-so-far, ← sides-head .first, add-one i) (write-step sideCodes oldSides i 0 (sides-head .within) (omega (arith, codes-length)));
-            edges-so-far = rw (walked .edges-so-far, ← edges-head .first, add-one i) (write-step coordinates oldEdges i (pos 0) (edges-head .within) (omega (arith, coordinates-length)))
-          }
+            record {
+              a-small = above-small s r a noBound small (walked .a-small);
+              b-small = below-small s r b noBound small (walked .b-small);
+              going = go .1;
+              sides-left = ap (λ n. drop n sideCodes) (add-one i) ∙ sides-head .rest;
+              edges-left = ap (λ n. drop n coordinates) (add-one i) ∙ edges-head .rest;
+              sides-so-far = rw (walked .sides-so-far, ← sides-head .first, add-one i) (write-step sideCodes oldSides i 0 (sides-head .within) (omega (arith, codes-length)));
+              edges-so-far = rw (walked .edges-so-far, ← edges-head .first, add-one i) (write-step coordinates oldEdges i (pos 0) (edges-head .within) (omega (arith, coordinates-length)));
+            }
 
-      -- and after the label that the code makes
-      pub walked-more : (side edge c d : ℕ) → LabelOn (sideOf (takesAbove a b here (rowFrom work (i * 241)))) here a b side edge c d → length zs ≤ length oldSides → length zs ≤ length oldEdges
-          → WalkedTo oldSides (set sides i side) oldEdges (set edges i (atDot edge)) c d (i + 1)
-      walked-more side edge c d label sides-long edges-long =
-          rw (label .side-is, label .edge-is, label .above-is, label .below-is) (walked-label _ (ap sideOf same-test) sides-long edges-long)
+        -- and after the label that the code makes
+        pub walked-more : (side edge c d : ℕ) → LabelOn (sideOf (takesAbove a b here (rowFrom work (i * 241)))) here a b side edge c d → length zs ≤ length oldSides → length zs ≤ length oldEdges
+            → WalkedTo oldSides (set sides i side) oldEdges (set edges i (atDot edge)) c d (i + 1)
+        walked-more side edge c d label sides-long edges-long =
+            rw (label .side-is, label .edge-is, label .above-is, label .below-is) (walked-label _ (ap sideOf same-test) sides-long edges-long)

@@ -42,10 +42,10 @@ walk-goes g a b m ms inside small e =
     by-bool (takesAbove a b m (cellsOf g m ms)) (λ t. Goes g a b m ms (sideOf t))
     (λ yes-above. let h = sym is ∙ yes-above in (leb-true a (m .place) (and-fst _ _ h), and-snd (leb a (m .place)) _ h))
     (λ no-above.
-      ⊎-elim
-      (λ l. clash l (sym is ∙ no-above))
-      (λ r. (leb-true b (m .place) (and-fst _ _ r), and-snd (leb b (m .place)) _ r))
-      (or-cases _ _ e))
+    ⊎-elim
+    (λ l. clash l (sym is ∙ no-above))
+    (λ r. (leb-true b (m .place) (and-fst _ _ r), and-snd (leb b (m .place)) _ r))
+    (or-cases _ _ e))
 
 -- the reaches stay small
 pub reach-small : (g : ℕ) (m : Mark) (ms : List Mark) (t : ℕ) → Inside g (m ∷ ms) → t ≤ m .place → reachPast g m t < noBound

@@ -3,3 +3,4 @@ pub mod Plain
 pub mod Room
 pub mod Table
 pub mod Walk
+pub mod Answer

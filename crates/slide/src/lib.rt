@@ -3,7 +3,9 @@ mod dots;
 mod lent;
 mod table;
 mod walk;
-ghost use Rattle.slide.specs.Slide.{Slide};
+
+ghost use Rattle.slide.specs.SlidePass.{SlidePass};
+ghost use Rattle.slide.specs.inner.Answer.{AnswerReady, Answer};
 
 const MOST_MARKS: usize = 60;
 
@@ -11,24 +13,17 @@ const WORK_NAMED: usize = 30000;
 
 const NO_PLACING: u8 = 11;
 
-// Sides and leftmost edges for the marks of the three lists, or the number of the refusal. The table has a row for each mark, with
-// at most 241 cells and a scan of at most 241 steps beside them, so a strip of 60 marks takes at most 60 * 482 = 28,920 of these steps,
-// and clearing the work area 30,000.
-pub fn slide(
+// The answer for a strip that passed the checks on entry: 0 with sides and leftmost edges, or 11.
+fn answer(
     places: &[i16],
     lengths: &[u8],
-    weights: &[u16],
     sides: &mut [u8],
     edges: &mut [i16],
     work: &mut [u16],
 ) -> u8
-    ensures { λ r. ⌜ Slide (now (places .entry)) (now (lengths .entry)) (now (weights .entry)) (now (sides .entry)) (now (sides .exit)) (now (edges .entry)) (now (edges .exit)) (now (work .entry)) (now (work .exit)) r ⌝ }
+    requires { ⌜ AnswerReady (now places) (now lengths) (record { sides = now sides; edges = now edges; work = now work }) ⌝ }
+    ensures { λ r. ⌜ Answer (now (places .entry)) (now (lengths .entry)) (record { sides = now (sides .entry); edges = now (edges .entry); work = now (work .entry) }) (record { sides = now (sides .exit); edges = now (edges .exit); work = now (work .exit) }) r ⌝ }
 {
-    let shortest = lent::smaller(sides.len(), edges.len());
-    let number = geometry::entry::check_pass(places, lengths, weights, MOST_MARKS, shortest, WORK_NAMED, work.len());
-    if number != 0 {
-        return number;
-    }
     table::fill(places, lengths, work);
     if !table::fits(places, work) {
         lent::clear(work, WORK_NAMED);
@@ -37,4 +32,33 @@ pub fn slide(
     walk::walk(places, lengths, work, sides, edges);
     lent::clear(work, WORK_NAMED);
     0
+}
+
+// Sides and leftmost edges for the marks of the three lists, or the number of the refusal. The table has a row for each mark, of at
+// most 241 cells and with a scan of at most 241 steps, so a strip of 60 marks takes at most 60 * 482 = 28,920 of these steps, 60 of the
+// walk, and 30,000 to clear the work area.
+pub fn slide(
+    places: &[i16],
+    lengths: &[u8],
+    weights: &[u16],
+    sides: &mut [u8],
+    edges: &mut [i16],
+    work: &mut [u16],
+) -> u8
+    ensures { λ r. ⌜ SlidePass (now (places .entry)) (now (lengths .entry)) (now (weights .entry)) (record { sides = now (sides .entry); edges = now (edges .entry); work = now (work .entry) }) (record { sides = now (sides .exit); edges = now (edges .exit); work = now (work .exit) }) r ⌝ }
+{
+    let shortest = lent::smaller(sides.len(), edges.len());
+    let number = geometry::entry::check_pass(
+        places,
+        lengths,
+        weights,
+        MOST_MARKS,
+        shortest,
+        WORK_NAMED,
+        work.len(),
+    );
+    if number != 0 {
+        return number;
+    }
+    answer(places, lengths, sides, edges, work)
 }

@@ -112,7 +112,14 @@ fn fill_mark(places: &[i16], lengths: &[u8], work: &mut [u16], k: usize)
         fill_last(work, row, lengths[k]);
         return;
     }
-    fill_row(work, row, dots::dot_of(places[k]), lengths[k], dots::dot_of(places[k + 1]), lengths[k + 1]);
+    fill_row(
+        work,
+        row,
+        dots::dot_of(places[k]),
+        lengths[k],
+        dots::dot_of(places[k + 1]),
+        lengths[k + 1],
+    );
 }
 
 // The rows of all marks, from the last to the first.

@@ -70,7 +70,14 @@ pub fn walk(places: &[i16], lengths: &[u8], work: &[u16], sides: &mut [u8], edge
     let mut below: u16 = 1;
     let mut i = 0;
     while i < places.len() {
-        let label = place_label(work, i * 241, dots::dot_of(places[i]), lengths[i], above, below);
+        let label = place_label(
+            work,
+            i * 241,
+            dots::dot_of(places[i]),
+            lengths[i],
+            above,
+            below,
+        );
         sides[i] = label.side;
         edges[i] = dots::at_dot(label.edge);
         above = label.above;

@@ -57,7 +57,7 @@ shared-slice-read-place-label : tie.Need-shared-slice-read-place-label Inv-loop 
 shared-slice-read-place-label c = omega (arith, c .before .before .before .before .before .before .before .before .pre .checked .same-count)
 
 place-label-requires : tie.Need-place-label-requires Inv-loop μ-loop
-place-label-requires c κs = 
+place-label-requires c κs =
     rw (dot-read (c .before))
     (step-ready _ _ (c .before .before .before .before .before .before .before .before .pre .checked) (c .before .before .before .before .before .before .before .before .args .work .now) _ _ _ _ _ _ (c .before .before .before .before .loop .i) (c .before .before .before .before .before .before .before .before .pre .table) (c .before .before .before .before .loop .inv .3) (omega arith) (c .before .before .before .before .before .before .before .before .pre .work-long))
 
@@ -80,10 +80,13 @@ loop-less : tie.Need-loop-less Inv-loop μ-loop
 loop-less c = omega arith
 
 loop-again : tie.Need-loop-again Inv-loop μ-loop
-loop-again c = 
-    (omega arith, simp length-set (c .before .before .before .before .before .before .loop .inv .1), simp length-set (c .before .before .before .before .before .before .loop .inv .2),
-    rw (edge-written c)
-    (walked-more _ _ (c .before .before .before .before .before .before .before .before .before .before .pre .checked) (c .before .before .before .before .before .before .before .before .before .before .args .work .now) _ _ _ _ _ _ (c .before .before .before .before .before .before .loop .i) (c .before .before .before .before .before .before .before .before .before .before .pre .table) (c .before .before .before .before .before .before .loop .inv .3) (omega arith) _ _ _ _ (rw (dot-read (c .before .before .before)) at (c .before .place-label .ensures)) (c .before .before .before .before .before .before .before .before .before .before .pre .sides-long) (c .before .before .before .before .before .before .before .before .before .before .pre .edges-long)))
+loop-again c = (
+  omega arith,
+  simp length-set (c .before .before .before .before .before .before .loop .inv .1),
+  simp length-set (c .before .before .before .before .before .before .loop .inv .2),
+  rw (edge-written c)
+      (walked-more _ _ (c .before .before .before .before .before .before .before .before .before .before .pre .checked) (c .before .before .before .before .before .before .before .before .before .before .args .work .now) _ _ _ _ _ _ (c .before .before .before .before .before .before .loop .i) (c .before .before .before .before .before .before .before .before .before .before .pre .table) (c .before .before .before .before .before .before .loop .inv .3) (omega arith) _ _ _ _ (rw (dot-read (c .before .before .before)) at (c .before .place-label .ensures)) (c .before .before .before .before .before .before .before .before .before .before .pre .sides-long) (c .before .before .before .before .before .before .before .before .before .before .pre .edges-long)),
+)
 
 same-length : tie.Need-same-length Inv-loop μ-loop
 same-length c = c .before .loop .inv .1
