@@ -2,7 +2,7 @@
 use mathlib.Core.Path.{_≡_, refl, sym, _∙_, ap}
 use mathlib.Core.Bool.{Bool, true, false, _||_}
 use mathlib.Core.List.{List, [], _∷_, _++_}
-use Prim.Native.Nat.{ℕ, zero, suc, _≤_}
+use Prim.Native.Nat.{ℕ}
 use native.Mathlib.Omega.{arith}
 use borrow.Author.Tests.{ne-eqb}
 use lib.Dec.{eqb, ltb}
@@ -12,7 +12,7 @@ use Rattle.geometry.specs.Pass.{cleared}
 use Rattle.geometry.proofs.Split.{clash}
 use Rattle.slide.specs.SlidePass.{Lent}
 use Rattle.slide.specs.inner.Answer.{AnswerReady, Answer}
-use Rattle.slide.specs.inner.Plain.{plainMarks, Checked}
+use Rattle.slide.specs.inner.Plain.{plainMarks}
 use Rattle.slide.specs.inner.Room.{slideable}
 use Rattle.slide.specs.inner.Table.{TableHolds, TableFrom}
 use Rattle.slide.specs.inner.Walk.{WalkReady, Walked}

@@ -9,17 +9,16 @@ use lib.IntN.{ℤ}
 use lib.ListN.{length}
 use Rattle.geometry.specs.Dot.{dot}
 use Rattle.geometry.specs.Mark.{Mark, marksOf}
-use Rattle.geometry.specs.Position.{Side, sideCode}
-use Rattle.geometry.specs.Sliding.{SlidingPlacing, Slides, leftmostEdges, noneBeyond, slidesWhole}
-use Rattle.geometry.specs.Refusal.{Verdict, accepted, numberOf, refusalNumber, noPlacing}
-use Rattle.geometry.specs.Pass.{passVerdict}
+use Rattle.geometry.specs.Position.{Side}
+use Rattle.geometry.specs.Sliding.{SlidingPlacing, leftmostEdges, noneBeyond, slidesWhole}
+use Rattle.geometry.specs.Refusal.{accepted, numberOf}
 use Rattle.geometry.proofs.Accepted.{Accepted, pass-accepted, accepted-rising, length-marks}
 use Rattle.geometry.proofs.AnyWord.{Found, sides-found}
 use Rattle.geometry.proofs.Sliding.{slides-whole}
 use Rattle.geometry.proofs.Split.{clash}
 use Rattle.geometry.proofs.Verdicts.{zero-accepted}
 use Rattle.geometry.proofs.WholeEdges.{leftmost-placing}
-use Rattle.slide.specs.SlidePass.{Lent, verdictOf, Refused, NoPlacing, Placed, AnswersUnchanged, Answered, SlidePass}
+use Rattle.slide.specs.SlidePass.{Lent, verdictOf, NoPlacing, Answered, SlidePass}
 use Rattle.slide.specs.inner.Answer.{AnswerReady, Answer}
 use Rattle.slide.specs.inner.Plain.{plainMarks, atDot}
 use Rattle.slide.specs.inner.Room.{slideable}

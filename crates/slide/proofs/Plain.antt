@@ -1,14 +1,13 @@
 -- The marks without their weights: what they are at each index, their ranges, and that the weights change no answer.
-use mathlib.Core.Path.{_≡_, refl, sym, _∙_, ap, ap₂}
-use mathlib.Core.Bool.{Bool, true, false, cond, _&&_}
+use mathlib.Core.Path.{_≡_, refl, ap}
+use mathlib.Core.Bool.{Bool, true, cond, _&&_}
 use mathlib.Core.List.{List, [], _∷_, map}
-use Prim.Native.Nat.{ℕ, zero, suc, _+_, _-_, _≤_, _<_}
+use Prim.Native.Nat.{ℕ, zero, suc, _-_, _≤_, _<_}
 use native.Mathlib.Omega.{arith}
 use borrow.Author.Tests.{leb-true}
-use lib.Dec.{leb, ltb}
+use lib.Dec.{leb}
 use lib.IntN.{ℤ, pos, negsuc}
 use lib.ListN.{length, getD, drop}
-use lib.Seq.{drop-nil}
 use Rattle.geometry.specs.Dot.{dot}
 use Rattle.geometry.specs.Lists.{every}
 use Rattle.geometry.specs.Mark.{Mark, marksOf, placeInRange, lengthInRange}
@@ -16,19 +15,13 @@ use Rattle.geometry.specs.Position.{Side, ownReach, aboveAfter, belowAfter}
 use Rattle.geometry.specs.Sliding.{leftmostEdge, edgesFrom, noneBeyond}
 use Rattle.geometry.proofs.Split.{by-ltb, and-fst, and-snd}
 use Rattle.geometry.proofs.Dots.{range-dots}
-use Rattle.slide.specs.inner.Plain.{markAt, plainMarks, atDot}
+use Rattle.slide.specs.inner.Plain.{plainMark, plainMarks, atDot}
 use Rattle.slide.specs.inner.Room.{reachPast}
 use Rattle.slide.proofs.Room.{Inside}
 
 -- every coordinate has its dot
 pub dot-at : (d : ℕ) → dot (atDot d) ≡ d
 dot-at d = by-ltb d 32768 (λ c. dot (cond c (negsuc (32767 - d)) (pos (d - 32768))) ≡ d) (λ h. omega arith) (λ h. omega arith)
-
-pub every-at : {A : Type 0} (p : A → Bool) (xs : List A) (i : ℕ) (d : A) → every p xs ≡ true → i < length xs → p (getD xs i d) ≡ true
-unfolding every
-every-at p [] i d e h = absurd (omega arith)
-every-at p (x ∷ xs) zero d e h = and-fst (p x) _ e
-every-at p (x ∷ xs) (suc i) d e h = every-at p xs i d (and-snd (p x) _ e) (omega arith)
 
 pub record GoodLength (l : ℕ) : Type 0 where
   pub low : 1 ≤ l
@@ -45,7 +38,7 @@ plain-length (z ∷ zs) (l ∷ ls) e = ap suc (plain-length zs ls (omega arith))
 
 -- the mark at an index
 pub plain-at : (zs : List ℤ) (ls : List ℕ) (i : ℕ) → length ls ≡ length zs → i < length zs
-    → drop i (plainMarks zs ls) ≡ markAt (dot (getD zs i (pos 0))) (getD ls i 0) ∷ drop (suc i) (plainMarks zs ls)
+    → drop i (plainMarks zs ls) ≡ plainMark (dot (getD zs i (pos 0))) (getD ls i 0) ∷ drop (suc i) (plainMarks zs ls)
 unfolding plainMarks
 plain-at [] ls i e h = absurd (omega arith)
 plain-at (z ∷ zs) [] i e h = absurd (omega arith)
@@ -68,14 +61,14 @@ inside-drop g (suc i) (m ∷ ms) inside = inside-drop g i ms (inside .2)
 
 -- a mark at weight 1
 abbrev pub unweighted : Mark → Mark
-unweighted m = markAt (m .place) (m .labelLength)
+unweighted m = plainMark (m .place) (m .labelLength)
 
 pub plain-marks : (zs : List ℤ) (ls ws : List ℕ) → length ls ≡ length zs → length ws ≡ length zs → map unweighted (marksOf zs ls ws) ≡ plainMarks zs ls
 unfolding plainMarks marksOf
 plain-marks [] ls ws e h = refl
 plain-marks (z ∷ zs) [] ws e h = absurd (omega arith)
 plain-marks (z ∷ zs) (l ∷ ls) [] e h = absurd (omega arith)
-plain-marks (z ∷ zs) (l ∷ ls) (w ∷ ws) e h = ap (λ (ms : List Mark). markAt (dot z) l ∷ ms) (plain-marks zs ls ws (omega arith) (omega arith))
+plain-marks (z ∷ zs) (l ∷ ls) (w ∷ ws) e h = ap (λ (ms : List Mark). plainMark (dot z) l ∷ ms) (plain-marks zs ls ws (omega arith) (omega arith))
 
 pub edges-plain : (g a b : ℕ) (ms : List Mark) (ss : List Side) → edgesFrom g a b (map unweighted ms) ss ≡ edgesFrom g a b ms ss
 unfolding edgesFrom

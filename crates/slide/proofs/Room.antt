@@ -1,17 +1,17 @@
 -- A cell is exact: a reach of the other side is below it iff the rest of the strip can be placed.
-use mathlib.Core.Path.{_≡_, refl, sym, _∙_, ap, ap₂}
-use mathlib.Core.Bool.{Bool, true, false, cond, _&&_, _||_}
+use mathlib.Core.Path.{_≡_, sym, _∙_, ap₂}
+use mathlib.Core.Bool.{true, cond, _&&_, _||_}
 use mathlib.Core.Logic.{⊎-elim}
 use mathlib.Core.List.{List, [], _∷_}
 use Prim.Native.Nat.{ℕ, zero, suc, _+_, _-_, _≤_, _<_, max}
 use native.Mathlib.Omega.{arith}
-use borrow.Author.Tests.{lt-ltb, le-ltb, ltb-true, le-leb, lt-leb}
+use borrow.Author.Tests.{lt-ltb, le-ltb, ltb-true}
 use lib.Dec.{leb, ltb}
 use Rattle.geometry.specs.Mark.{Mark}
 use Rattle.geometry.proofs.Split.{by-leb, by-ltb, lt-or-ge}
-use Rattle.slide.specs.inner.Room.{slidBy, reachAt, reachPast, slideable, noBound, furthest, ownSide, otherSide, roomBefore, room}
+use Rattle.slide.specs.inner.Room.{slidBy, reachAt, reachPast, slideable, noBound, furthest, ownSide, otherSide, room}
 use Rattle.slide.proofs.Slideable.{exchanged, smaller-reach}
-use Rattle.slide.proofs.Furthest.{same-tests, furthest-within, furthest-exact, furthest-same}
+use Rattle.slide.proofs.Furthest.{same-tests, furthest-within, furthest-exact}
 
 -- every label, with the gap, lies between the coordinates 0 and noBound wherever it slides, as that of every accepted mark does
 abbrev pub Inside : ℕ → List Mark → Type 0

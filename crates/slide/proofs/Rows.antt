@@ -6,7 +6,6 @@ use mathlib.Core.List.{List, [], _∷_}
 use Prim.Native.Nat.{ℕ, zero, suc, _+_, _-_, _*_, _≤_, _<_, max}
 use native.Mathlib.Omega.{arith}
 use native.Mathlib.Numerals.{add-one}
-use lib.Dec.{leb}
 use lib.ListN.{length, getD, drop, set, length-set}
 use lib.Seq.{drop-drop, getD-drop, getD-set-same, getD-set-other, drop-set-lt}
 use Rattle.geometry.specs.Mark.{Mark}

@@ -1,30 +1,31 @@
 -- The table of a strip that passed the checks on entry, from its last row to its first.
-use mathlib.Core.Path.{_≡_, refl, sym, _∙_, ap}
+use mathlib.Core.Path.{_≡_, refl, _∙_}
 use mathlib.Core.List.{List, [], _∷_}
-use Prim.Native.Nat.{ℕ, zero, suc, _+_, _-_, _*_, _≤_, _<_}
+use Prim.Native.Nat.{ℕ, _+_, _*_, _≤_, _<_}
 use native.Mathlib.Omega.{arith}
 use native.Mathlib.Numerals.{add-one}
 use lib.IntN.{ℤ, pos}
 use lib.ListN.{length, getD, drop, drop-of-length-le}
 use Rattle.geometry.specs.Dot.{dot}
 use Rattle.geometry.specs.Mark.{Mark, placeInRange, lengthInRange}
+use Rattle.geometry.proofs.Accepted.{every-at}
 use Rattle.geometry.proofs.Dots.{InDots, range-dots}
-use Rattle.slide.specs.inner.Plain.{markAt, plainMarks, Checked}
+use Rattle.slide.specs.inner.Plain.{plainMark, plainMarks, Checked}
 use Rattle.slide.specs.inner.Room.{noBound, roomBefore}
 use Rattle.slide.specs.inner.Table.{rowFrom, FilledTo, TableHolds, TableFrom}
-use Rattle.slide.proofs.Plain.{every-at, GoodLength, length-range, plain-length, plain-at}
+use Rattle.slide.proofs.Plain.{GoodLength, length-range, plain-length, plain-at}
 use Rattle.slide.proofs.Rows.{row-before, last-right, row-right, unchanged-further}
 
 module _ (zs : List ℤ) (ls : List ℕ) (checked : Checked zs ls) where
   pub dot-range : (k : ℕ) → k < length zs → InDots (dot (getD zs k (pos 0)))
-  dot-range k h = range-dots (getD zs k (pos 0)) (every-at placeInRange zs k (pos 0) (checked .places-good) h)
+  dot-range k h = range-dots (getD zs k (pos 0)) (every-at placeInRange zs (pos 0) k (checked .places-good) h)
 
   pub label-range : (k : ℕ) → k < length zs → GoodLength (getD ls k 0)
-  label-range k h = length-range (getD ls k 0) (every-at lengthInRange ls k 0 (checked .lengths-good) (omega (arith, checked .same-count)))
+  label-range k h = length-range (getD ls k 0) (every-at lengthInRange ls 0 k (checked .lengths-good) (omega (arith, checked .same-count)))
 
   -- the mark at an index
   abbrev pub markHere : ℕ → Mark
-  markHere k = markAt (dot (getD zs k (pos 0))) (getD ls k 0)
+  markHere k = plainMark (dot (getD zs k (pos 0))) (getD ls k 0)
 
   pub marks-from : (k : ℕ) → k < length zs → drop k (plainMarks zs ls) ≡ markHere k ∷ drop (k + 1) (plainMarks zs ls)
   marks-from k h = plain-at zs ls k (checked .same-count) h ∙ rw (← add-one k) refl
@@ -52,7 +53,7 @@ module _ (zs : List ℤ) (ls : List ℕ) (checked : Checked zs ls) where
     -- a row before the rows of the later marks; p and q are the dots of its mark and of the next
     pub table-row-more : (p q : ℕ) → p ≡ dot (getD zs k (pos 0)) → q ≡ dot (getD zs (k + 1) (pos 0)) → k + 1 < length zs
         → TableHolds (drop ((k + 1) * 241) old) (drop (k + 1) (plainMarks zs ls))
-        → FilledTo old new (k * 241) (getD ls k 0 + 1) (λ d. roomBefore (markAt q (getD ls (k + 1) 0)) (p + d) (rowFrom old (k * 241 + 241)))
+        → FilledTo old new (k * 241) (getD ls k 0 + 1) (λ d. roomBefore (plainMark q (getD ls (k + 1) 0)) (p + d) (rowFrom old (k * 241 + 241)))
         → TableFrom old new k (plainMarks zs ls)
     table-row-more p q p-is q-is more table filled =
         let e : (k + 1) * 241 ≡ k * 241 + 241 = omega arith in

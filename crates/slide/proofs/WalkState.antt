@@ -1,21 +1,21 @@
 -- The walk after i marks: what is written is the beginning of the answer, and what is left of the answer is the walk of the rest.
 use mathlib.Core.Path.{_≡_, refl, sym, _∙_, ap, subst}
-use mathlib.Core.Bool.{Bool, true, false, cond, _&&_}
+use mathlib.Core.Bool.{Bool, true, false, _&&_}
 use mathlib.Core.List.{List, [], _∷_, _++_, map}
-use Prim.Native.Nat.{ℕ, zero, suc, _+_, _-_, _*_, _≤_, _<_}
+use Prim.Native.Nat.{ℕ, suc, _+_, _*_, _≤_, _<_}
 use native.Mathlib.Omega.{arith}
 use native.Mathlib.Numerals.{add-one}
-use lib.Dec.{leb, ltb}
+use lib.Dec.{ltb}
 use lib.IntN.{ℤ, pos}
 use lib.ListN.{length, getD, take, drop, set, length-map}
-use lib.Seq.{getD-drop, take-length, drop-length}
+use lib.Seq.{getD-drop, take-length}
 use Rattle.geometry.specs.Dot.{dot}
 use Rattle.geometry.specs.Mark.{Mark}
 use Rattle.geometry.specs.Position.{Side, above, below, sideCode, ownReach, aboveAfter, belowAfter}
 use Rattle.geometry.specs.Sliding.{leftmostEdge, edgesFrom, leftmostEdges}
 use Rattle.geometry.specs.Pass.{written}
 use Rattle.geometry.proofs.Split.{by-leb}
-use Rattle.slide.specs.inner.Plain.{markAt, plainMarks, atDot, Checked}
+use Rattle.slide.specs.inner.Plain.{plainMark, plainMarks, atDot, Checked}
 use Rattle.slide.specs.inner.Room.{slidBy, reachAt, reachPast, slideable, noBound, room}
 use Rattle.slide.specs.inner.Table.{rowFrom, RowHolds, TableHolds}
 use Rattle.slide.specs.inner.Walk.{takesAbove, sideOf, sideBefore, sidesFrom, walkSides, LabelOn, StepReady, Walked}
@@ -24,7 +24,7 @@ use Rattle.slide.proofs.Walking.{Goes, walk-goes, walk-length, reach-sm
 use Rattle.slide.proofs.Written.{write-step, Head, drop-head}
 use Rattle.slide.proofs.Plain.{plain-inside, plain-length, inside-drop}
 use Rattle.slide.proofs.Rows.{table-row}
-use Rattle.slide.proofs.StripTable.{dot-range, label-range, markHere, marks-from, marks-end, short-label}
+use Rattle.slide.proofs.StripTable.{dot-range, label-range, marks-from}
 
 -- as many edges as sides
 edges-length : (g a b : ℕ) (ms : List Mark) (ss : List Side) → length ss ≡ length ms → length (edgesFrom g a b ms ss) ≡ length ms
@@ -107,7 +107,7 @@ module _ (zs : List ℤ) (ls : List ℕ) where
         (more : i < length zs)
       where
         abbrev here : Mark
-        here = markAt (dot (getD zs i (pos 0))) (getD ls i 0)
+        here = plainMark (dot (getD zs i (pos 0))) (getD ls i 0)
 
         abbrev rest : List Mark
         rest = drop (i + 1) (plainMarks zs ls)

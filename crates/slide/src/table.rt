@@ -7,7 +7,7 @@ ghost use mathlib.Core.Bool.{_||_};
 ghost use Prim.Native.Nat.{_+_, _-_, _*_, _≤_, _<_, max};
 ghost use lib.Dec.{ltb, eqb};
 ghost use lib.ListN.{length, getD, drop};
-ghost use Rattle.slide.specs.inner.Plain.{markAt, plainMarks, Checked};
+ghost use Rattle.slide.specs.inner.Plain.{plainMark, plainMarks, Checked};
 ghost use Rattle.slide.specs.inner.Room.{furthest, ownSide, otherSide, roomBefore, noBound};
 ghost use Rattle.slide.specs.inner.Table.{rowFrom, FilledTo, TableHolds, TableFrom};
 
@@ -44,7 +44,7 @@ fn furthest_slide(work: &[u16], row: usize, reach: u16, count: usize) -> usize
 // The bound where the next label lies on the side of the reach.
 fn own_side(work: &[u16], row: usize, place: u16, length: u8, reach: u16) -> u16
     requires { do ⌜ (length < place) × (row + length < (← ⟦work.len()⟧)) ⌝ }
-    ensures { λ r. ⌜ r ≡ ownSide (markAt place length) reach (rowFrom (now (work .entry)) row) ⌝ }
+    ensures { λ r. ⌜ r ≡ ownSide (plainMark place length) reach (rowFrom (now (work .entry)) row) ⌝ }
 {
     if place < reach {
         return 0;
@@ -55,7 +55,7 @@ fn own_side(work: &[u16], row: usize, place: u16, length: u8, reach: u16) -> u16
 // The bound where it lies on the other side and may slide by less than `slides` dots.
 fn other_side(place: u16, length: u8, slides: usize) -> u16
     requires { ⌜ (length < place) × (place < 65535) × (slides ≤ length + 1) ⌝ }
-    ensures { λ r. ⌜ r ≡ otherSide (markAt place length) slides ⌝ }
+    ensures { λ r. ⌜ r ≡ otherSide (plainMark place length) slides ⌝ }
 {
     if slides == 0 {
         return 0;
@@ -87,7 +87,7 @@ fn fill_last(work: &mut [u16], row: usize, length: u8)
 // The row of a mark from the row of the next one. The bounds fall as the reach grows, so each scan goes on where the last one stopped.
 fn fill_row(work: &mut [u16], row: usize, place: u16, length: u8, next_place: u16, next_length: u8)
     requires { do ⌜ (row + 482 ≤ (← ⟦work.len()⟧)) × (length ≤ 240) × (place + length < 65535) × («next_length» ≤ 240) × («next_length» < «next_place») × («next_place» < 65535) ⌝ }
-    ensures { λ r. ⌜ FilledTo (now (work .entry)) (now (work .exit)) row (length + 1) (λ d. roomBefore (markAt «next_place» «next_length») (place + d) (rowFrom (now (work .entry)) (row + 241))) ⌝ }
+    ensures { λ r. ⌜ FilledTo (now (work .entry)) (now (work .exit)) row (length + 1) (λ d. roomBefore (plainMark «next_place» «next_length») (place + d) (rowFrom (now (work .entry)) (row + 241))) ⌝ }
 {
     let next = row + ROW;
     let mut slides = next_length as usize + 1;

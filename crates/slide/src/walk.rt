@@ -4,22 +4,22 @@ use crate::table;
 ghost use mathlib.Core.Path.{_≡_};
 ghost use Prim.Native.Nat.{_+_, _<_};
 ghost use Rattle.geometry.specs.Sliding.{leftmostEdge};
-ghost use Rattle.slide.specs.inner.Plain.{markAt};
+ghost use Rattle.slide.specs.inner.Plain.{plainMark};
 ghost use Rattle.slide.specs.inner.Table.{rowFrom};
 ghost use Rattle.slide.specs.inner.Walk.{takesAbove, sideOf, LabelOn, StepReady, WalkReady, Walked};
 
 // A label's side and left edge, as a dot, and the two reaches after it.
-pub struct Label {
-    pub side: u8,
-    pub edge: u16,
-    pub above: u16,
-    pub below: u16,
+struct Label {
+    side: u8,
+    edge: u16,
+    above: u16,
+    below: u16,
 }
 
 // Whether a label can lie above: its edge is not beyond its mark, and the rest goes with the reach below.
 fn takes_above(work: &[u16], row: usize, place: u16, length: u8, above: u16, below: u16) -> bool
     requires { do ⌜ (length < place) × (row + length < (← ⟦work.len()⟧)) ⌝ }
-    ensures { λ r. ⌜ r ≡ takesAbove above below (markAt place length) (rowFrom (now (work .entry)) row) ⌝ }
+    ensures { λ r. ⌜ r ≡ takesAbove above below (plainMark place length) (rowFrom (now (work .entry)) row) ⌝ }
 {
     if place < above {
         return false;
@@ -30,7 +30,7 @@ fn takes_above(work: &[u16], row: usize, place: u16, length: u8, above: u16, bel
 // The left edge of a label as far left as it goes.
 fn leftmost(place: u16, length: u8, reach: u16) -> u16
     requires { ⌜ length < place ⌝ }
-    ensures { λ r. ⌜ r ≡ leftmostEdge (markAt place length) reach ⌝ }
+    ensures { λ r. ⌜ r ≡ leftmostEdge (plainMark place length) reach ⌝ }
 {
     let start = place - length as u16;
     if reach < start {
@@ -41,7 +41,7 @@ fn leftmost(place: u16, length: u8, reach: u16) -> u16
 
 fn place_label(work: &[u16], row: usize, place: u16, length: u8, above: u16, below: u16) -> Label
     requires { do ⌜ StepReady (rowFrom (now work) row) (← ⟦work.len()⟧) row place length above below ⌝ }
-    ensures { λ r. ⌜ LabelOn (sideOf (takesAbove above below (markAt place length) (rowFrom (now (work .entry)) row))) (markAt place length) above below (r .side) (r .edge) (r .above) (r .below) ⌝ }
+    ensures { λ r. ⌜ LabelOn (sideOf (takesAbove above below (plainMark place length) (rowFrom (now (work .entry)) row))) (plainMark place length) above below (r .side) (r .edge) (r .above) (r .below) ⌝ }
 {
     if takes_above(work, row, place, length, above, below) {
         let edge = leftmost(place, length, above);

@@ -4,12 +4,6 @@ use Rattle.slide.proofs.Answers.{walk-ready, no-answer, some-answer}
 use borrow.Author.Tests.{not-true, not-false}
 use Rattle.slide.proofs.answer.Statement.{statement}
 use Rattle.slide.proofs.answer.Tie as tie
-use Rattle.slide.proofs.answer.Reads as reads
-use Rattle.slide.proofs.answer.Lts as lts
-use Rattle.slide.proofs.lent.clear.Reads as clear-reads
-use Rattle.slide.proofs.table.fill.Reads as fill-reads
-use Rattle.slide.proofs.table.fits.Reads as fits-reads
-use Rattle.slide.proofs.walk.walk.Reads as walk-reads
 
 fill-requires : tie.Need-fill-requires
 fill-requires c κs = search needs

@@ -1,6 +1,6 @@
 -- `slide::slide` meets its contract: a refusal by the checks stands, and else the answer past them.
-use mathlib.Core.Path.{_≡_, refl, sym, _∙_, ap}
-use Prim.Native.Nat.{ℕ, min}
+use mathlib.Core.Path.{_≡_, _∙_, ap}
+use Prim.Native.Nat.{ℕ}
 use lib.ListN.{length}
 use Rattle.geometry.specs.Refusal.{numberOf}
 use Rattle.geometry.specs.Pass.{passVerdict}
@@ -9,11 +9,6 @@ use Rattle.slide.proofs.Contract.{answer-ready, refused-right, answered
 use borrow.Author.Needs.{needs}
 use Rattle.slide.proofs.slide.Statement.{statement}
 use Rattle.slide.proofs.slide.Tie as tie
-use Rattle.slide.proofs.slide.Reads as reads
-use Rattle.slide.proofs.slide.Lts as lts
-use Rattle.geometry.proofs.entry.check_pass.Reads as check-pass-reads
-use Rattle.slide.proofs.answer.Reads as answer-reads
-use Rattle.slide.proofs.lent.smaller.Reads as smaller-reads
 
 -- the number of the checks
 number-is : (c : tie.After-check-pass) → c .check-pass .result ≡ numberOf (verdictOf (c .before .before .before .before .before .before .args .places .now) (c .before .before .before .before .before .before .args .lengths .now) (c .before .before .before .before .before .before .args .weights .now) (record { sides = c .before .before .before .before .before .before .args .sides .now; edges = c .before .before .before .before .before .before .args .edges .now; work = c .before .before .before .before .before .before .args .work .now }))

@@ -11,13 +11,13 @@ use Rattle.geometry.specs.Lists.{every}
 use Rattle.geometry.specs.Mark.{Mark, placeInRange, lengthInRange}
 
 -- the mark at a dot with a label of a length, at weight 1
-abbrev pub markAt : ℕ → ℕ → Mark
-markAt p l = record { place = p; labelLength = l; weight = 1 }
+abbrev pub plainMark : ℕ → ℕ → Mark
+plainMark p l = record { place = p; labelLength = l; weight = 1 }
 
 unfoldable pub plainMarks : List ℤ → List ℕ → List Mark
 plainMarks [] ls = []
 plainMarks (z ∷ zs) [] = []
-plainMarks (z ∷ zs) (l ∷ ls) = markAt (dot z) l ∷ plainMarks zs ls
+plainMarks (z ∷ zs) (l ∷ ls) = plainMark (dot z) l ∷ plainMarks zs ls
 
 -- the coordinate of a dot
 abbrev pub atDot : ℕ → ℤ

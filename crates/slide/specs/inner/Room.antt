@@ -1,7 +1,7 @@
 -- What the rest of the strip can still take: given the reach of one side, the greatest reach of the other.
 use Prim.Native.Nat.{ℕ, zero, suc, _+_, _-_, max}
 use mathlib.Core.List.{List, [], _∷_}
-use mathlib.Core.Bool.{Bool, true, false, cond, _&&_, _||_}
+use mathlib.Core.Bool.{Bool, true, cond, _&&_, _||_}
 use lib.Dec.{leb, ltb}
 use Rattle.geometry.specs.Mark.{Mark}
 use Rattle.geometry.specs.Sliding.{leftmostEdge}

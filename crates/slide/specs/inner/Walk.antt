@@ -10,7 +10,7 @@ use Rattle.geometry.specs.Mark.{Mark}
 use Rattle.geometry.specs.Position.{Side, above, below, sideCode, ownReach, aboveAfter, belowAfter}
 use Rattle.geometry.specs.Sliding.{leftmostEdge, leftmostEdges}
 use Rattle.geometry.specs.Pass.{written}
-use Rattle.slide.specs.inner.Plain.{markAt, plainMarks, atDot, Checked}
+use Rattle.slide.specs.inner.Plain.{plainMark, plainMarks, atDot, Checked}
 use Rattle.slide.specs.inner.Room.{slidBy, reachAt, reachPast, slideable, room}
 use Rattle.slide.specs.inner.Table.{TableHolds}
 
@@ -44,7 +44,7 @@ pub record StepReady (cells : ℕ → ℕ) (most row place length a b : ℕ) : T
   pub row-there : row + length < most
   pub short : length < place
   pub high : place + length < 65536
-  pub one-free : takesAbove a b (markAt place length) cells ≡ false → b ≤ place
+  pub one-free : takesAbove a b (plainMark place length) cells ≡ false → b ≤ place
 
 -- what the walk asks
 pub record WalkReady (zs : List ℤ) (ls work sides : List ℕ) (edges : List ℤ) : Type 0 where

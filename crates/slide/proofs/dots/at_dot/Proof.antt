@@ -1,12 +1,12 @@
 -- `slide::dots::at_dot` meets its contract: each half of the dots is one sign.
-use mathlib.Core.Path.{_≡_, refl, sym, _∙_, ap}
-use Prim.Native.Nat.{ℕ, _-_, _<_}
+use mathlib.Core.Path.{_≡_, sym, _∙_}
+use Prim.Native.Nat.{_-_}
 use borrow.Author.Needs.{needs}
 use native.Mathlib.Omega.{arith}
 use mir.Syntax.{w16}
-use mir.Val.{SFits, toZ, ofZ}
+use mir.Val.{toZ}
 use mir.ValLaws.{toZ-pos}
-use lib.IntN.{ℤ, pos, negsuc, _-ℤ_}
+use lib.IntN.{negsuc, _-ℤ_}
 use Rattle.geometry.proofs.Dots.{back, held}
 use Rattle.slide.proofs.Coordinates.{minus-one-more, at-dot-low, at-dot-high}
 use Rattle.slide.proofs.dots.at_dot.Statement.{statement}

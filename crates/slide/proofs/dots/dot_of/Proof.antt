@@ -1,12 +1,9 @@
 -- `slide::dots::dot_of` meets its contract: each sign is one half of the dots.
-use mathlib.Core.Path.{_≡_, refl, sym, _∙_, ap}
-use mathlib.Core.Bool.{true, false}
-use Prim.Native.Nat.{ℕ, _-_, _+_, _<_}
+use mathlib.Core.Path.{_≡_}
 use native.Mathlib.Omega.{arith}
 use mir.Syntax.{w16}
 use mir.Val.{SFits, toZ, ofZ}
-use lib.IntN.{ℤ, pos, negsuc, natAbs, _-ℤ_}
-use lib.Signed.{leZ}
+use lib.IntN.{pos, negsuc, _-ℤ_}
 use Rattle.geometry.proofs.Dots.{back, held}
 use Rattle.slide.proofs.Coordinates.{FromZero, from-zero, BelowZero, below-zero}
 use Rattle.slide.proofs.dots.dot_of.Statement.{statement}

@@ -1,5 +1,5 @@
 -- `slide::lent::clear` meets its contract: after i turns the first i numbers are zeros and the rest is as it was.
-use mathlib.Core.Path.{_≡_, refl, sym, _∙_, ap}
+use mathlib.Core.Path.{_≡_, refl}
 use mathlib.Core.List.{List}
 use Prim.Native.Nat.{ℕ, _+_, _≤_, _<_, _-_}
 use native.Mathlib.Omega.{arith}

@@ -1,8 +1,7 @@
 -- `slide::table::fill` meets its contract: the rows of the marks from k on are in place.
-use mathlib.Core.Path.{_≡_, refl, sym, _∙_, ap}
+use mathlib.Core.Path.{_≡_}
 use Prim.Native.Nat.{ℕ, _+_, _-_, _*_, _≤_, _<_}
 use native.Mathlib.Omega.{arith}
-use borrow.Author.Needs.{needs}
 use mathlib.Core.List.{List}
 use lib.ListN.{length, drop}
 use Rattle.geometry.specs.Mark.{Mark}
@@ -11,9 +10,6 @@ use Rattle.slide.specs.inner.Table.{TableHolds, TableFrom}
 use Rattle.slide.proofs.StripTable.{table-none, table-more}
 use Rattle.slide.proofs.table.fill.Statement.{statement}
 use Rattle.slide.proofs.table.fill.Tie as tie
-use Rattle.slide.proofs.table.fill.Reads as reads
-use Rattle.slide.proofs.table.fill.Lts as lts
-use Rattle.slide.proofs.table.fill_mark.Reads as fill-mark-reads
 
 -- the rows from k on, at the mark before k
 table-at : {old new : List ℕ} {k : ℕ} {ms : List Mark} → TableFrom old new k ms → 0 < k → TableHolds (drop ((k - 1 + 1) * 241) new) (drop (k - 1 + 1) ms)

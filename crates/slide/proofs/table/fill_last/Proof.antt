@@ -1,9 +1,7 @@
 -- `slide::table::fill_last` meets its contract: after d turns the first d cells hold no bound.
-use mathlib.Core.Path.{_≡_, refl, sym, _∙_, ap}
-use mathlib.Core.List.{List}
-use Prim.Native.Nat.{ℕ, _+_, _≤_, _-_}
+use mathlib.Core.Path.{_≡_, refl}
+use Prim.Native.Nat.{_+_, _≤_, _-_}
 use native.Mathlib.Omega.{arith}
-use lib.ListN.{length-set}
 use Rattle.slide.specs.inner.Room.{noBound}
 use Rattle.slide.specs.inner.Table.{FilledTo}
 use Rattle.slide.proofs.Rows.{filled-none, filled-more}

@@ -1,20 +1,15 @@
 -- `slide::table::fill_mark` meets its contract: the last mark has nothing behind it, and any other has the row of the next.
-use mathlib.Core.Path.{_≡_, refl, sym, _∙_, ap}
-use Prim.Native.Nat.{ℕ, _+_, _≤_, _<_}
+use mathlib.Core.Path.{_≡_, _∙_, ap}
+use Prim.Native.Nat.{ℕ, _+_}
 use native.Mathlib.Omega.{arith}
 use borrow.Author.Needs.{needs}
-use lib.IntN.{ℤ, pos}
-use lib.ListN.{length, getD}
+use lib.IntN.{pos}
+use lib.ListN.{getD}
 use Rattle.geometry.specs.Dot.{dot}
 use Rattle.geometry.proofs.Dots.{fetched}
-use Rattle.slide.proofs.StripTable.{dot-range, label-range, short-label, table-last, table-row-more}
+use Rattle.slide.proofs.StripTable.{dot-range, label-range, table-last, table-row-more}
 use Rattle.slide.proofs.table.fill_mark.Statement.{statement}
 use Rattle.slide.proofs.table.fill_mark.Tie as tie
-use Rattle.slide.proofs.table.fill_mark.Reads as reads
-use Rattle.slide.proofs.table.fill_mark.Lts as lts
-use Rattle.slide.proofs.dots.dot_of.Reads as dot-of-reads
-use Rattle.slide.proofs.table.fill_last.Reads as fill-last-reads
-use Rattle.slide.proofs.table.fill_row.Reads as fill-row-reads
 
 -- the dots of the two places that were read
 first-dot : (c : tie.After-dot-of) → c .dot-of .result ≡ dot (getD (c .before .before .before .before .before .before .args .places .now) (c .before .before .before .before .before .before .args .k) (pos 0))

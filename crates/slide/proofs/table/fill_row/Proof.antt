@@ -1,27 +1,16 @@
 -- `slide::table::fill_row` meets its contract: after d turns the first d cells are right, and the scan may go on where it stopped.
-use mathlib.Core.Path.{_≡_, refl, sym, _∙_, ap}
-use mathlib.Core.List.{List}
-use Prim.Native.Nat.{ℕ, suc, _+_, _≤_, _-_}
+use mathlib.Core.Path.{_≡_}
+use Prim.Native.Nat.{_+_, _≤_, _-_}
 use native.Mathlib.Omega.{arith}
-use native.Mathlib.Numerals.{add-one}
 use borrow.Author.Needs.{needs}
-use Rattle.slide.specs.inner.Plain.{markAt}
-use Rattle.slide.specs.inner.Room.{furthest, ownSide, roomBefore}
-use Rattle.slide.specs.inner.Table.{rowFrom, FilledTo}
-use Rattle.slide.proofs.Furthest.{furthest-within}
+use Rattle.slide.specs.inner.Plain.{plainMark}
 use Rattle.slide.proofs.Rows.{Scanned, scanned-none, found-within, scanned-more}
 use Rattle.slide.proofs.table.fill_row.Statement.{statement}
 use Rattle.slide.proofs.table.fill_row.Tie as tie
-use Rattle.slide.proofs.table.fill_row.Reads as reads
-use Rattle.slide.proofs.table.fill_row.Lts as lts
-use Rattle.slide.proofs.table.furthest_slide.Reads as furthest-slide-reads
-use Rattle.slide.proofs.table.greater.Reads as greater-reads
-use Rattle.slide.proofs.table.other_side.Reads as other-side-reads
-use Rattle.slide.proofs.table.own_side.Reads as own-side-reads
 
 abbrev Inv-loop : tie.InvT-loop
 Inv-loop work₀ row place length next-place next-length next slides₀ d₀ work slides d =
-    (d ≤ length + 1) × Scanned work₀ work row place (markAt next-place next-length) d slides
+    (d ≤ length + 1) × Scanned work₀ work row place (plainMark next-place next-length) d slides
 
 abbrev μ-loop : tie.MeasureT-loop
 μ-loop work₀ row place length next-place next-length next slides₀ d₀ work slides d = length + 1 - d

@@ -1,5 +1,5 @@
 -- `slide::table::fits` meets its contract: no marks fit, and else the first cell decides.
-use mathlib.Core.Path.{_≡_, refl}
+use mathlib.Core.Path.{refl}
 use borrow.Author.Needs.{needs}
 use borrow.Author.Tests.{eq-eqb, ne-eqb}
 use Rattle.slide.proofs.table.fits.Statement.{statement}

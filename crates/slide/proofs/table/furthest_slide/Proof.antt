@@ -1,6 +1,6 @@
 -- `slide::table::furthest_slide` meets its contract: the answer for the whole row is that for what is left of it.
-use mathlib.Core.Path.{_≡_, refl, sym, _∙_, ap}
-use Prim.Native.Nat.{_≤_, _-_}
+use mathlib.Core.Path.{_≡_, refl, sym, _∙_}
+use Prim.Native.Nat.{_≤_}
 use native.Mathlib.Omega.{arith}
 use Rattle.slide.specs.inner.Room.{furthest}
 use Rattle.slide.specs.inner.Table.{rowFrom}

@@ -4,7 +4,7 @@ use Prim.Native.Nat.{ℕ, zero, suc, _+_, _-_}
 use native.Mathlib.Omega.{arith}
 use borrow.Author.Needs.{needs}
 use Rattle.geometry.specs.Mark.{Mark}
-use Rattle.slide.specs.inner.Plain.{markAt}
+use Rattle.slide.specs.inner.Plain.{plainMark}
 use Rattle.slide.specs.inner.Room.{otherSide}
 use Rattle.slide.proofs.table.other_side.Statement.{statement}
 use Rattle.slide.proofs.table.other_side.Tie as tie
@@ -13,12 +13,12 @@ other-none : (m : Mark) (k : ℕ) → k ≡ 0 → 0 ≡ otherSide m k
 other-none m zero e = refl
 other-none m (suc k) e = absurd (omega arith)
 
-other-some : (p l k : ℕ) → (k ≡ 0 → ⊥) → p - l + k ≡ otherSide (markAt p l) k
+other-some : (p l k : ℕ) → (k ≡ 0 → ⊥) → p - l + k ≡ otherSide (plainMark p l) k
 other-some p l zero e = absurd (e refl)
 other-some p l (suc k) e = refl
 
 returns : tie.Need-returns
-returns c = other-none (markAt (c .before .args .place) (c .before .args .length)) _ (c .if1 .taken)
+returns c = other-none (plainMark (c .before .args .place) (c .before .args .length)) _ (c .if1 .taken)
 
 sub-result : tie.Need-sub-result
 sub-result c = search needs

@@ -1,5 +1,5 @@
 -- `slide::table::own_side` meets its contract: past the mark there is no room, and else the cell of its slide says how much.
-use mathlib.Core.Path.{_≡_, refl}
+use mathlib.Core.Path.{refl}
 use borrow.Author.Needs.{needs}
 use borrow.Author.Tests.{le-leb, lt-leb}
 use Rattle.slide.proofs.table.own_side.Statement.{statement}

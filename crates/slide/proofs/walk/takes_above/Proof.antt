@@ -1,5 +1,5 @@
 -- `slide::walk::takes_above` meets its contract: past the mark the label cannot lie, and else the cell of its slide decides.
-use mathlib.Core.Path.{_≡_, refl}
+use mathlib.Core.Path.{refl}
 use borrow.Author.Needs.{needs}
 use borrow.Author.Tests.{le-leb, lt-leb}
 use Rattle.slide.proofs.walk.takes_above.Statement.{statement}

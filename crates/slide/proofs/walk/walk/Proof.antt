@@ -1,9 +1,9 @@
 -- `slide::walk::walk` meets its contract: what is written so far is the beginning of the answer, and the walk of the rest is what is left.
-use mathlib.Core.Path.{_≡_, refl, sym, _∙_, ap}
-use Prim.Native.Nat.{ℕ, _+_, _-_, _*_, _≤_, _<_}
+use mathlib.Core.Path.{_≡_, refl, _∙_, ap}
+use Prim.Native.Nat.{_-_, _≤_}
 use native.Mathlib.Omega.{arith}
 use borrow.Author.Needs.{needs}
-use lib.IntN.{ℤ, pos}
+use lib.IntN.{pos}
 use lib.ListN.{length, getD, length-set}
 use mir.Syntax.{w16}
 use mir.Val.{toZ, ofZ}
@@ -14,11 +14,6 @@ use Rattle.slide.proofs.Coordinates.{at-dot-small}
 use Rattle.slide.proofs.WalkState.{WalkedTo, walked-none, walked-all, step-ready, walked-more}
 use Rattle.slide.proofs.walk.walk.Statement.{statement}
 use Rattle.slide.proofs.walk.walk.Tie as tie
-use Rattle.slide.proofs.walk.walk.Reads as reads
-use Rattle.slide.proofs.walk.walk.Lts as lts
-use Rattle.slide.proofs.dots.at_dot.Reads as at-dot-reads
-use Rattle.slide.proofs.dots.dot_of.Reads as dot-of-reads
-use Rattle.slide.proofs.walk.place_label.Reads as place-label-reads
 
 abbrev Inv-loop : tie.InvT-loop
 Inv-loop places lengths work sides₀ edges₀ above₀ below₀ i₀ sides edges above below i =
