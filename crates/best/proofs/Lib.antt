@@ -1,0 +1,3 @@
+-- Laws that belong to no one function, in reading order.
+pub mod Worth
+pub mod Names

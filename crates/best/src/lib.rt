@@ -1,0 +1,2 @@
+pub mod answer;
+mod label;
