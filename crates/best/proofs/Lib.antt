@@ -1,3 +1,5 @@
 -- Laws that belong to no one function, in reading order.
 pub mod Worth
 pub mod Names
+pub mod Cells
+pub mod Lent

@@ -1,2 +1,4 @@
 pub mod answer;
 mod label;
+mod memory;
+mod table;

@@ -39,3 +39,18 @@ pub record Strip (zs : List ℤ) (ls ws work : List ℕ) : Type 0 where
   pub places-good : every placeInRange zs ≡ true
   pub weights-good : every weightInRange ws ≡ true
   pub roomy : 15000 ≤ length work
+
+-- the last labels x above and y below are of marks before the one with index k, which is one of the strip
+pub record Beside (zs : List ℤ) (k x y : ℕ) : Type 0 where
+  pub in-strip : k < length zs
+  pub above-before : x / 2 ≤ k
+  pub below-before : y / 2 ≤ k
+
+-- the cells that mark k leads to stand in the work area, and hold numbers that a weight can be added to
+pub record Readable (ws work : List ℕ) (k x y : ℕ) : Type 0 where
+  pub weighed : k < length ws
+  pub few : k < 60
+  pub above-small : x < 122
+  pub below-small : y < 122
+  pub roomy : 15000 ≤ length work
+  pub light : (p : Position) → getD work (cellAfter k x y p) 0 ≤ 60000
