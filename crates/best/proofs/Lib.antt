@@ -2,4 +2,5 @@
 pub mod Worth
 pub mod Names
 pub mod Cells
+pub mod Renewal
 pub mod Lent

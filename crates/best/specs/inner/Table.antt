@@ -1,7 +1,7 @@
 -- The table: a cell for each pair of names, 122 above and 122 below.
 use mathlib.Core.Path.{_≡_}
 use mathlib.Core.List.{List}
-use mathlib.Core.Bool.{true, cond}
+use mathlib.Core.Bool.{Bool, true, cond}
 use Prim.Native.Nat.{ℕ, suc, _+_, _*_, _/_, _≤_, _<_, max}
 use lib.Dec.{ltb}
 use lib.IntN.{ℤ}
@@ -9,8 +9,8 @@ use lib.ListN.{length, getD, drop}
 use Rattle.geometry.specs.Lists.{every}
 use Rattle.geometry.specs.Mark.{marksOf, placeInRange, weightInRange}
 use Rattle.geometry.specs.Position.{Position}
-use Rattle.best.specs.inner.Worth.{worth}
-use Rattle.best.specs.inner.Names.{reachNamed, aboveNamed, belowNamed}
+use Rattle.best.specs.inner.Worth.{roomFor, earnedBy, worth}
+use Rattle.best.specs.inner.Names.{markAt, reachNamed, aboveNamed, belowNamed}
 
 abbrev pub cellOf : ℕ → ℕ → ℕ
 cellOf x y = x * 122 + y
@@ -24,12 +24,12 @@ unfoldable pub cellWorth : ℕ → List ℤ → List ℕ → List ℕ → ℕ �
 cellWorth g zs ls ws k x y = worth g (reachNamed g zs ls x) (reachNamed g zs ls y) (drop (max k (max (x / 2) (y / 2))) (marksOf zs ls ws))
 
 -- the cells below the bound count the marks from index k on, the other cells those from k + 1 on
-abbrev pub Partly : ℕ → List ℤ → List ℕ → List ℕ → ℕ → ℕ → List ℕ → Type 0
-Partly g zs ls ws k bound table =
-    (x y : ℕ) → x < 122 → y < 122 → getD table (cellOf x y) 0 ≡ cellWorth g zs ls ws (cond (ltb (cellOf x y) bound) k (suc k)) x y
+pub record Partly (g : ℕ) (zs : List ℤ) (ls ws : List ℕ) (k bound : ℕ) (table : List ℕ) : Type 0 where
+  pub cell : (x y : ℕ) → x < 122 → y < 122 → getD table (cellOf x y) 0 ≡ cellWorth g zs ls ws (cond (ltb (cellOf x y) bound) k (suc k)) x y
 
-abbrev pub Filled : ℕ → List ℤ → List ℕ → List ℕ → ℕ → List ℕ → Type 0
-Filled g zs ls ws k table = (x y : ℕ) → x < 122 → y < 122 → getD table (cellOf x y) 0 ≡ cellWorth g zs ls ws k x y
+-- every cell counts the marks from index k on
+pub record Filled (g : ℕ) (zs : List ℤ) (ls ws : List ℕ) (k : ℕ) (table : List ℕ) : Type 0 where
+  pub cell : (x y : ℕ) → x < 122 → y < 122 → getD table (cellOf x y) 0 ≡ cellWorth g zs ls ws k x y
 
 -- what the checks on entry leave of the three lists, and the size of the work area
 pub record Strip (zs : List ℤ) (ls ws work : List ℕ) : Type 0 where
@@ -40,17 +40,19 @@ pub record Strip (zs : List ℤ) (ls ws work : List ℕ) : Type 0 where
   pub weights-good : every weightInRange ws ≡ true
   pub roomy : 15000 ≤ length work
 
--- the last labels x above and y below are of marks before the one with index k, which is one of the strip
+-- the mark with index k is one of the strip, and the last labels x above and y below are of marks before it
 pub record Beside (zs : List ℤ) (k x y : ℕ) : Type 0 where
   pub in-strip : k < length zs
   pub above-before : x / 2 ≤ k
   pub below-before : y / 2 ≤ k
 
--- the cells that mark k leads to stand in the work area, and hold numbers that a weight can be added to
-pub record Readable (ws work : List ℕ) (k x y : ℕ) : Type 0 where
-  pub weighed : k < length ws
-  pub few : k < 60
-  pub above-small : x < 122
-  pub below-small : y < 122
-  pub roomy : 15000 ≤ length work
-  pub light : (p : Position) → getD work (cellAfter k x y p) 0 ≤ 60000
+-- the cells that mark k leads to hold numbers that a weight can be added to
+pub record Light (work : List ℕ) (k x y : ℕ) : Type 0 where
+  pub cell : (p : Position) → getD work (cellAfter k x y p) 0 ≤ 60000
+
+-- room for mark k at p beside the last labels, and what it then earns with the marks after it, by the table
+abbrev pub roomAt : ℕ → List ℤ → List ℕ → List ℕ → ℕ → ℕ → ℕ → Position → Bool
+roomAt g zs ls ws k x y p = roomFor (reachNamed g zs ls x) (reachNamed g zs ls y) (markAt zs ls ws k) p
+
+abbrev pub gainAt : List ℕ → List ℕ → ℕ → ℕ → ℕ → Position → ℕ
+gainAt ws work k x y p = earnedBy (getD ws k 0) p + getD work (cellAfter k x y p) 0

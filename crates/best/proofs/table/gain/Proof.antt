@@ -13,8 +13,8 @@ use Rattle.best.proofs.table.gain.Tie as tie
 names-small : (c : tie.After-earned) → (c .before .before .above-after .result < 122) × (c .before .below-after .result < 122)
 names-small c =
     let a = c .before .before .before .before .before in (
-      rw (c .before .before .above-after .ensures) (above-small (a .args .k) (a .args .above) (positionOf (a .args .p)) (a .pre .few) (a .pre .above-small)),
-      rw (c .before .below-after .ensures) (below-small (a .args .k) (a .args .below) (positionOf (a .args .p)) (a .pre .few) (a .pre .below-small)),
+      rw (c .before .before .above-after .ensures) (above-small (a .args .k) (a .args .above) (positionOf (a .args .p)) (a .pre .1 .0) (a .pre .1 .1 .0 .0)),
+      rw (c .before .below-after .ensures) (below-small (a .args .k) (a .args .below) (positionOf (a .args .p)) (a .pre .1 .0) (a .pre .1 .1 .0 .1)),
     )
 
 -- and the cell is the one that the position leads to
@@ -47,7 +47,7 @@ shared-slice-read-result c = omega (arith, names-small (c .before))
 add-result-2 : tie.Need-add-result-2
 add-result-2 c = 
     let a = c .before .before .before .before .before .before in
-    rw (cell-is (c .before)) (omega (arith, c .before .earned .ensures .1, a .pre .light (positionOf (a .args .p))))
+    rw (cell-is (c .before)) (omega (arith, c .before .earned .ensures .1, a .pre .1 .1 .1 .1 .cell (positionOf (a .args .p))))
 
 returns : tie.Need-returns
 returns c = rw (cell-is (c .before), c .before .earned .ensures .0) refl
