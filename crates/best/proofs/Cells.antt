@@ -113,3 +113,15 @@ module _ (zs : List ℤ) (ls ws work : List ℕ) (k x y : ℕ) (strip : Strip zs
 
   pub known-below : Known zs ls y
   known-below = record { same-lengths = strip .same-lengths; places-good = strip .places-good; within = omega arith }
+
+-- the same strip with a work area of the same size
+pub strip-again : {zs : List ℤ} {ls ws : List ℕ} (work new : List ℕ) → Strip zs ls ws work → length new ≡ length work → Strip zs ls ws new
+strip-again work new s e =
+    record {
+      same-lengths = s .same-lengths;
+      same-weights = s .same-weights;
+      few = s .few;
+      places-good = s .places-good;
+      weights-good = s .weights-good;
+      roomy = omega arith;
+    }
