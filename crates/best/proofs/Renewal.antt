@@ -76,10 +76,12 @@ module _ (g : ℕ) (zs : List ℤ) (ls ws : List ℕ) (k : ℕ) where
       (lt-or-ge (cellOf x y) b) }
 
 -- a cleared table counts no marks
-pub cleared-table : (g n : ℕ) (zs : List ℤ) (ls ws old : List ℕ) → length zs ≡ length ls → length zs ≡ length ws → 14884 ≤ n → Filled g zs ls ws (length zs) (cleared n 0 old)
+pub cleared-table : (g n : ℕ) (zs : List ℤ) (ls ws table old : List ℕ) → length zs ≡ length ls → length zs ≡ length ws → 14884 ≤ n → table ≡ cleared n 0 old
+    → Filled g zs ls ws (length zs) table
 unfolding cellWorth worth
-cleared-table g n zs ls ws old e f h = record { cell = λ x y hx hy.
-    List·getD-append (replicate n 0) (drop n old) 0 (cellOf x y) (rw (length-replicate {A = ℕ} n 0) (omega arith)) ∙ getD-replicate n (cellOf x y) 0 0 (omega arith)
+cleared-table g n zs ls ws table old e f h t = record { cell = λ x y hx hy.
+    ap (λ (l : List ℕ). getD l (cellOf x y) 0) t
+    ∙ List·getD-append (replicate n 0) (drop n old) 0 (cellOf x y) (rw (length-replicate {A = ℕ} n 0) (omega arith)) ∙ getD-replicate n (cellOf x y) 0 0 (omega arith)
     ∙ ap (worth g (reachNamed g zs ls x) (reachNamed g zs ls y)) (sym (drop-of-length-le (marksOf zs ls ws) {i = max (length zs) (max (x / 2) (y / 2))} (omega (arith, length-marks zs ls ws e f)))) }
 
 -- no cell holds more than 60,000
