@@ -2,3 +2,4 @@ pub mod answer;
 mod label;
 mod memory;
 mod table;
+mod walk;
