@@ -4,3 +4,4 @@ pub mod Names
 pub mod Cells
 pub mod Renewal
 pub mod Lent
+pub mod Walked
