@@ -5,3 +5,4 @@ pub mod Cells
 pub mod Renewal
 pub mod Lent
 pub mod Walked
+pub mod Zeros
