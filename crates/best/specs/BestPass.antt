@@ -21,6 +21,9 @@ pub record Lent : Type 0 where
   pub left-out : List ℕ
   pub work : List ℕ
 
+abbrev pub lent : List ℕ → List ℕ → List ℕ → Lent
+lent positions leftOut work = record { positions = positions; left-out = leftOut; work = work }
+
 -- checks 6 to 10: at most 60 marks, two answer lists, a work area of 15,000 numbers
 abbrev pub verdictOf : List ℤ → List ℕ → List ℕ → Lent → Verdict
 verdictOf zs ls ws before = passVerdict 60 zs ls ws (min (length (before .positions)) (length (before .left-out))) 15000 (length (before .work))
