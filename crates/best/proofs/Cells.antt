@@ -84,8 +84,8 @@ module _ (g : ℕ) (zs : List ℤ) (ls ws : List ℕ) (k : ℕ) (same-lengths : 
   -- what a cell counts from mark k on, by the definition of `worth`
   worth-from : (x y : ℕ) → x / 2 ≤ k → y / 2 ≤ k
       → greatestOf (roomAt g zs ls ws k x y)
-          (λ p. earnedBy (getD ws k 0) p + worth g (nextAbove g (reachNamed g zs ls x) (markAt zs ls ws k) p) (nextBelow g (reachNamed g zs ls y) (markAt zs ls ws k) p) (drop (suc k) (marksOf zs ls ws)))
-          everyPosition
+      (λ p. earnedBy (getD ws k 0) p + worth g (nextAbove g (reachNamed g zs ls x) (markAt zs ls ws k) p) (nextBelow g (reachNamed g zs ls y) (markAt zs ls ws k) p) (drop (suc k) (marksOf zs ls ws)))
+      everyPosition
       ≡ cellWorth g zs ls ws k x y
   unfolding cellWorth worth
   worth-from x y h i =

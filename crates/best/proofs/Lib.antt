@@ -6,3 +6,4 @@ pub mod Renewal
 pub mod Lent
 pub mod Walked
 pub mod Zeros
+pub mod Answers

@@ -62,9 +62,11 @@ module _ (g : ℕ) (zs : List ℤ) (ls ws work : List ℕ) (strip : Strip zs ls 
     walk-beside = record { in-strip = in-strip; above-before = walked .above-before; below-before = walked .below-before }
 
     pub walk-light : Light work k x y
-    walk-light = record { cell = λ p.
-        rw (filled .cell (aboveNamed k p x) (belowNamed k p y) (above-small k x p (omega arith) (omega arith)) (below-small k y p (omega arith) (omega arith)))
-        (law-light g 0 (aboveNamed k p x) (belowNamed k p y) zs ls ws work strip) }
+    walk-light = record {
+      cell = λ p.
+          rw (filled .cell (aboveNamed k p x) (belowNamed k p y) (above-small k x p (omega arith) (omega arith)) (below-small k y p (omega arith) (omega arith)))
+          (law-light g 0 (aboveNamed k p x) (belowNamed k p y) zs ls ws work strip);
+    }
 
     abbrev m : Mark
     m = markAt zs ls ws k
@@ -86,8 +88,8 @@ module _ (g : ℕ) (zs : List ℤ) (ls ws work : List ℕ) (strip : Strip zs ls 
     chosen-is =
         rw (walked .target-is, left-is)
         (picked-same a b m _ (λ p. worth g (nextAbove g a m p) (nextBelow g b m p) rest) (worth g a b (m ∷ rest))
-          (λ s d. filled .cell (aboveNamed k (at s d) x) (belowNamed k (at s d) y) (above-small k x (at s d) (omega arith) (omega arith)) (below-small k y (at s d) (omega arith) (omega arith))
-            ∙ after-worth g zs ls ws 0 k x y (at s d) (let e = label-last k x y s d (walked .above-before) (walked .below-before) in omega arith)))
+        (λ s d. filled .cell (aboveNamed k (at s d) x) (belowNamed k (at s d) y) (above-small k x (at s d) (omega arith) (omega arith)) (below-small k y (at s d) (omega arith) (omega arith))
+        ∙ after-worth g zs ls ws 0 k x y (at s d) (let e = label-last k x y s d (walked .above-before) (walked .below-before) in omega arith)))
 
     -- what is left to earn
     earned-and-rest : (p : Position) → p ≡ pickedFrom g a b m rest → earnedBy (getD ws k 0) p + worth g (nextAbove g a m p) (nextBelow g b m p) rest ≡ target
@@ -131,7 +133,7 @@ module _ (g : ℕ) (zs : List ℤ) (ls ws work : List ℕ) (strip : Strip zs ls 
         }
 
 -- at the end the used part holds the best choice
-best-length : (g a b : ℕ) (ms : List Mark) → length (bestFrom g a b ms) ≡ length ms
+pub best-length : (g a b : ℕ) (ms : List Mark) → length (bestFrom g a b ms) ≡ length ms
 unfolding bestFrom
 best-length g a b [] = refl
 best-length g a b (m ∷ ms) = let p = pickedFrom g a b m ms in ap suc (best-length g (nextAbove g a m p) (nextBelow g b m p) ms)

@@ -6,7 +6,6 @@ mod table;
 mod walk;
 
 use answer::Best;
-
 ghost use mathlib.Core.List.{map};
 ghost use mathlib.Core.Path.{_≡_};
 ghost use Prim.Native.Nat.{_≤_};
@@ -23,7 +22,13 @@ const MOST_MARKS: usize = 60;
 const NAMED: usize = 15000;
 
 // The positions of an accepted strip and their sum; leaves zeros in the work area.
-fn label_marks(places: &[i16], lengths: &[u8], weights: &[u16], positions: &mut [u8], work: &mut [u32]) -> u32
+fn label_marks(
+    places: &[i16],
+    lengths: &[u8],
+    weights: &[u16],
+    positions: &mut [u8],
+    work: &mut [u32],
+) -> u32
     requires { ⌜ Strip (now places) (now lengths) (now weights) (now work) ⌝ ∗ ⌜ length (now places) ≤ length (now positions) ⌝ }
     ensures { λ r. ⌜ now (positions .exit) ≡ written (map code (bestFrom 0 1 1 (marksOf (now (places .entry)) (now (lengths .entry)) (now (weights .entry))))) (now (positions .entry)) ⌝ ∗ ⌜ r ≡ worth 0 1 1 (marksOf (now (places .entry)) (now (lengths .entry)) (now (weights .entry))) ⌝ ∗ ⌜ now (work .exit) ≡ cleared 15000 0 (now (work .entry)) ⌝ }
 {
@@ -47,11 +52,27 @@ pub fn best(
     ensures { λ r. ⌜ BestPass (now (places .entry)) (now (lengths .entry)) (now (weights .entry)) (lent (now (positions .entry)) (now («left_out» .entry)) (now (work .entry))) (lent (now (positions .exit)) (now («left_out» .exit)) (now (work .exit))) r ⌝ }
 {
     let shortest = memory::smaller(positions.len(), left_out.len());
-    let number = geometry::entry::check_pass(places, lengths, weights, MOST_MARKS, shortest, NAMED, work.len());
+    let number = geometry::entry::check_pass(
+        places,
+        lengths,
+        weights,
+        MOST_MARKS,
+        shortest,
+        NAMED,
+        work.len(),
+    );
     if number != 0 {
-        return Best { number, sum: 0, count: 0 };
+        return Best {
+            number,
+            sum: 0,
+            count: 0,
+        };
     }
     let sum = label_marks(places, lengths, weights, positions, work);
     let count = walk::list_left_out(positions, places.len(), left_out);
-    Best { number: 0, sum, count }
+    Best {
+        number: 0,
+        sum,
+        count,
+    }
 }

@@ -3,7 +3,6 @@
 use crate::label;
 use crate::label::Position;
 use crate::memory;
-
 ghost use mathlib.Core.List.{List};
 ghost use mathlib.Core.Path.{_≡_};
 ghost use mathlib.Core.Bool.{cond};
@@ -72,19 +71,91 @@ fn offer(
 }
 
 // The most that mark k and the marks after it earn beside the last labels above and below.
-fn most(places: &[i16], lengths: &[u8], weights: &[u16], work: &[u32], k: usize, above: usize, below: usize) -> u32
+fn most(
+    places: &[i16],
+    lengths: &[u8],
+    weights: &[u16],
+    work: &[u32],
+    k: usize,
+    above: usize,
+    below: usize,
+) -> u32
     requires { ⌜ Strip (now places) (now lengths) (now weights) (now work) ⌝ ∗ ⌜ Beside (now places) k above below ⌝ ∗ ⌜ Light (now work) k above below ⌝ }
     ensures { λ r. ⌜ r ≡ greatestOf (roomAt 0 (now (places .entry)) (now (lengths .entry)) (now (weights .entry)) k above below) (gainAt (now (weights .entry)) (now (work .entry)) k above below) everyPosition ⌝ }
 {
-    let e = offer(places, lengths, weights, work, k, Position::BelowRight, above, below);
-    let d = larger(offer(places, lengths, weights, work, k, Position::AboveRight, above, below), e);
-    let c = larger(offer(places, lengths, weights, work, k, Position::BelowLeft, above, below), d);
-    let b = larger(offer(places, lengths, weights, work, k, Position::AboveLeft, above, below), c);
-    larger(offer(places, lengths, weights, work, k, Position::Unlabelled, above, below), b)
+    let e = offer(
+        places,
+        lengths,
+        weights,
+        work,
+        k,
+        Position::BelowRight,
+        above,
+        below,
+    );
+    let d = larger(
+        offer(
+            places,
+            lengths,
+            weights,
+            work,
+            k,
+            Position::AboveRight,
+            above,
+            below,
+        ),
+        e,
+    );
+    let c = larger(
+        offer(
+            places,
+            lengths,
+            weights,
+            work,
+            k,
+            Position::BelowLeft,
+            above,
+            below,
+        ),
+        d,
+    );
+    let b = larger(
+        offer(
+            places,
+            lengths,
+            weights,
+            work,
+            k,
+            Position::AboveLeft,
+            above,
+            below,
+        ),
+        c,
+    );
+    larger(
+        offer(
+            places,
+            lengths,
+            weights,
+            work,
+            k,
+            Position::Unlabelled,
+            above,
+            below,
+        ),
+        b,
+    )
 }
 
 // One cell for one mark more, if its last labels are of marks before mark k.
-fn renew_cell(places: &[i16], lengths: &[u8], weights: &[u16], work: &mut [u32], k: usize, cell: usize)
+fn renew_cell(
+    places: &[i16],
+    lengths: &[u8],
+    weights: &[u16],
+    work: &mut [u32],
+    k: usize,
+    cell: usize,
+)
     requires { ⌜ Strip (now places) (now lengths) (now weights) (now work) ⌝ ∗ ⌜ k < length (now places) ⌝ ∗ ⌜ cell < (2 * k + 2) * 122 ⌝ ∗ ⌜ Partly 0 (now places) (now lengths) (now weights) k cell (now work) ⌝ }
     ensures { λ r. ⌜ Partly 0 (now (places .entry)) (now (lengths .entry)) (now (weights .entry)) k (suc cell) (now (work .exit)) ⌝ ∗ ⌜ drop 15000 (now (work .exit)) ≡ drop 15000 (now (work .entry)) ⌝ }
 {

@@ -36,8 +36,10 @@ returns c =
     let f = c .before .before .before .before .before .before .before .before .before .before .before .before .fill in
     let x = c .before .before .clear in (
       c .before .before .before .before .before .before .before .place-labels .ensures,
-      (first-cell 0 _ _ _ _ (strip-again (a .args .work .now) (f .last .1 .1 .1 .0) (a .pre .0) (f .kept .1 .1 .1 .0)) (f .ensures .0),
-        cleared-again 15000 (x .last .0) (f .last .1 .1 .1 .0) (a .args .work .now) (x .ensures) (f .ensures .1)),
+      (
+        first-cell 0 _ _ _ _ (strip-again (a .args .work .now) (f .last .1 .1 .1 .0) (a .pre .0) (f .kept .1 .1 .1 .0)) (f .ensures .0),
+        cleared-again 15000 (x .last .0) (f .last .1 .1 .1 .0) (a .args .work .now) (x .ensures) (f .ensures .1),
+      ),
     )
 
 pub label-marks-spec : {M : Type 1} → statement M

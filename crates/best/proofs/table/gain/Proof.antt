@@ -45,7 +45,7 @@ shared-slice-read-result : tie.Need-shared-slice-read-result
 shared-slice-read-result c = omega (arith, names-small (c .before))
 
 add-result-2 : tie.Need-add-result-2
-add-result-2 c = 
+add-result-2 c =
     let a = c .before .before .before .before .before .before in
     rw (cell-is (c .before)) (omega (arith, c .before .earned .ensures .1, a .pre .1 .1 .1 .1 .cell (positionOf (a .args .p))))
 

@@ -16,12 +16,12 @@ gain-requires c κs =
     (omega arith, (omega arith, (omega arith, (a .pre .0 .roomy, a .pre .1 .1))))
 
 returns : tie.Need-returns
-returns c = 
+returns c =
     let a = c .before .before .before .before .before .before in
     rw (sym (c .before .before .has-room .ensures (a .args .weights .now)) ∙ c .before .if1 .taken) (c .gain .ensures)
 
 returns-2 : tie.Need-returns-2
-returns-2 c = 
+returns-2 c =
     let a = c .before .before .before .before .before in
     rw (sym (c .before .has-room .ensures (a .args .weights .now)) ∙ c .if1 .left) refl
 
