@@ -16,6 +16,7 @@ use Rattle.geometry.specs.Mark.{Mark, marksOf, placeInRange, lengthInRan
 use Rattle.geometry.specs.Refusal.{Refusal, Verdict, accepted, refused, afterCheck, firstFailure}
 use Rattle.geometry.specs.Entry.{sameLengths, goodMarks, entry}
 use Rattle.geometry.specs.Pass.{passVerdict}
+use Rattle.geometry.specs.inner.At.{markAt}
 use Rattle.geometry.specs.inner.Rising.{Rising}
 use Rattle.geometry.proofs.Split.{and-fst, and-snd}
 use Rattle.geometry.proofs.Dots.{dot-lt, range-dots, range-mag}
@@ -87,10 +88,6 @@ length-marks [] ls ws e f = refl
 length-marks (z ∷ zs) [] ws e f = absurd (omega arith)
 length-marks (z ∷ zs) (l ∷ ls) [] e f = absurd (omega arith)
 length-marks (z ∷ zs) (l ∷ ls) (w ∷ ws) e f = ap suc (length-marks zs ls ws (omega arith) (omega arith))
-
--- the mark at an index, as the model has it
-abbrev pub markAt : List ℤ → List ℕ → List ℕ → ℕ → Mark
-markAt zs ls ws i = record { place = dot (getD zs i (pos 0)); labelLength = getD ls i 0; weight = getD ws i 0 }
 
 -- what is left of the marks begins with the mark at the index
 pub marks-from : (zs : List ℤ) (ls ws : List ℕ) (i : ℕ) → length zs ≡ length ls → length zs ≡ length ws → i < length zs

@@ -1,5 +1,5 @@
 -- Signed 16-bit coordinates and their dots: sums, differences and tests of one are those of the other.
-use mathlib.Core.Path.{_≡_, refl, sym, _∙_, ap}
+use mathlib.Core.Path.{_≡_, refl, sym, _∙_, ap, ap₂}
 use mathlib.Core.Bool.{Bool, true, false, not, _&&_}
 use Prim.Native.Nat.{ℕ, zero, suc, _+_, _-_, _≤_, _<_}
 use native.Mathlib.Omega.{arith}
@@ -29,17 +29,32 @@ same-test : (a b c d : ℕ) → (a ≤ b → c ≤ d) → (c ≤ d → a ≤ b) 
 same-test a b c d f g =
     by-leb a b (λ t. t ≡ leb c d) (λ h. sym (le-leb c d (f h))) (λ h. sym (by-leb c d (λ t. t ≡ false) (λ k. let k′ : a ≤ b = g k in absurd (omega arith)) (λ _. refl)))
 
+-- at least −32,768: what its dot needs to be its distance from there
+abbrev pub NotLow : ℤ → Type 0
+NotLow (pos n) = Unit {0}
+NotLow (negsuc n) = n < 32768
+
+pub not-low : (z : ℤ) → mag z < 32768 → NotLow z
+not-low (pos n) h = tt
+not-low (negsuc n) h = h
+
+pub dot-le-high : (z w : ℤ) → NotLow z → NotLow w → leZ z w ≡ leb (dot z) (dot w)
+dot-le-high (pos a) (pos b) h k = same-test a b (a + 32768) (b + 32768) (omega arith) (omega arith)
+dot-le-high (pos a) (negsuc b) h k = sym (lt-leb (a + 32768) (32767 - b) (omega arith))
+dot-le-high (negsuc a) (pos b) h k = sym (le-leb (32767 - a) (b + 32768) (omega arith))
+dot-le-high (negsuc a) (negsuc b) h k = same-test b a (32767 - a) (32767 - b) (omega arith) (omega arith)
+
+pub dot-lt-high : (z w : ℤ) → NotLow z → NotLow w → ltZ z w ≡ ltb (dot z) (dot w)
+dot-lt-high (pos a) (pos b) h k = same-test (suc a) b (suc (a + 32768)) (b + 32768) (omega arith) (omega arith)
+dot-lt-high (pos a) (negsuc b) h k = sym (lt-leb (suc (a + 32768)) (32767 - b) (omega arith))
+dot-lt-high (negsuc a) (pos b) h k = sym (le-leb (suc (32767 - a)) (b + 32768) (omega arith))
+dot-lt-high (negsuc a) (negsuc b) h k = same-test (suc b) a (suc (32767 - a)) (32767 - b) (omega arith) (omega arith)
+
 pub dot-le : (z w : ℤ) → mag z < 32768 → mag w < 32768 → leZ z w ≡ leb (dot z) (dot w)
-dot-le (pos a) (pos b) h k = same-test a b (a + 32768) (b + 32768) (omega arith) (omega arith)
-dot-le (pos a) (negsuc b) h k = sym (lt-leb (a + 32768) (32767 - b) (omega arith))
-dot-le (negsuc a) (pos b) h k = sym (le-leb (32767 - a) (b + 32768) (omega arith))
-dot-le (negsuc a) (negsuc b) h k = same-test b a (32767 - a) (32767 - b) (omega arith) (omega arith)
+dot-le z w h k = dot-le-high z w (not-low z h) (not-low w k)
 
 pub dot-lt : (z w : ℤ) → mag z < 32768 → mag w < 32768 → ltZ z w ≡ ltb (dot z) (dot w)
-dot-lt (pos a) (pos b) h k = same-test (suc a) b (suc (a + 32768)) (b + 32768) (omega arith) (omega arith)
-dot-lt (pos a) (negsuc b) h k = sym (lt-leb (suc (a + 32768)) (32767 - b) (omega arith))
-dot-lt (negsuc a) (pos b) h k = sym (le-leb (suc (32767 - a)) (b + 32768) (omega arith))
-dot-lt (negsuc a) (negsuc b) h k = same-test (suc b) a (suc (32767 - a)) (32767 - b) (omega arith) (omega arith)
+dot-lt z w h k = dot-lt-high z w (not-low z h) (not-low w k)
 
 -- of two numbers the one is less, or the other is not more
 pub lt-not-le : (z w : ℤ) → ltZ z w ≡ not (leZ w z)
@@ -64,6 +79,10 @@ mag-subℕ a b h k = by-ltb a b (λ t. mag (mathlib.Core.Bool.cond t (negsuc (b 
 pub dot-add : (z : ℤ) (n : ℕ) → mag z < 32768 → dot (z +ℤ pos n) ≡ dot z + n
 dot-add (pos a) n h = omega arith
 dot-add (negsuc a) n h = dot-subℕ n (suc a) (omega arith) ∙ omega arith
+
+pub add-not-low : (z : ℤ) (n : ℕ) → mag z < 32768 → NotLow (z +ℤ pos n)
+add-not-low (pos a) n h = tt
+add-not-low (negsuc a) n h = by-ltb n (suc a) (λ t. NotLow (mathlib.Core.Bool.cond t (negsuc (suc a - suc n)) (pos (n - suc a)))) (λ l. omega arith) (λ l. tt)
 
 pub mag-add : (z : ℤ) (n : ℕ) → mag z < 32768 → dot z + n < 65536 → mag (z +ℤ pos n) < 32768
 mag-add (pos a) n h k = omega arith
@@ -93,3 +112,7 @@ range-dots (negsuc a) e = let h : a ≤ 29999 = leb-true a 29999 (and-fst (leb a
 pub range-mag : (z : ℤ) → placeInRange z ≡ true → mag z < 32768
 range-mag (pos a) e = let h : a ≤ 30000 = leb-true a 30000 e in omega arith
 range-mag (negsuc a) e = let h : a ≤ 29999 = leb-true a 29999 (and-fst (leb a 29999) true e) in omega arith
+
+-- a test of two numbers that went through 16 bits is the test of the numbers
+pub told : {x y : ℤ} {t : Bool} → SFits w16 x → SFits w16 y → t ≡ leb (dot (toZ w16 (ofZ w16 x))) (dot (toZ w16 (ofZ w16 y))) → t ≡ leb (dot x) (dot y)
+told h k e = e ∙ ap₂ (λ (a b : ℤ). leb (dot a) (dot b)) (back h) (back k)

@@ -4,6 +4,7 @@ pub mod Dots
 pub mod Every
 pub mod Verdicts
 pub mod Accepted
+pub mod SignedOverlap
 pub mod Rising
 pub mod Machine
 pub mod Reaches
@@ -13,6 +14,9 @@ pub mod LastLabel
 pub mod Best
 pub mod Whole
 pub mod Layouts
+pub mod Beginnings
+pub mod Demand3
+pub mod Starred
 pub mod AnyWord
 pub mod Sliding
 pub mod WholeEdges

@@ -5,6 +5,7 @@ pub mod Dot
 pub mod Mark
 pub mod Position
 pub mod Overlap
+pub mod SignedEnds
 pub mod Placing
 pub mod Sliding
 pub mod Layout

@@ -1,0 +1,92 @@
+-- `full::kept::greatest` meets its contract: each call says what it gives, and a number that went through 16 bits is itself.
+use mathlib.Core.Path.{refl}
+use borrow.Author.Needs.{needs}
+use Rattle.geometry.proofs.Dots.{back, fetched}
+use Rattle.full.proofs.kept.greatest.Statement.{statement}
+use Rattle.full.proofs.kept.greatest.Tie as tie
+use Rattle.full.proofs.kept.greatest.Reads as reads
+use Rattle.full.proofs.kept.greatest.Lts as lts
+use Rattle.full.proofs.kept.allowed.Reads as allowed-reads
+use Rattle.geometry.proofs.order.at_most.Reads as at-most-reads
+use Rattle.geometry.proofs.order.larger.Reads as larger-reads
+
+at-most-requires : tie.Need-at-most-requires
+at-most-requires c κs = search needs
+
+allowed-requires : tie.Need-allowed-requires
+allowed-requires c κs = search needs
+
+at-most-requires-2 : tie.Need-at-most-requires-2
+at-most-requires-2 c κs = search needs
+
+allowed-requires-2 : tie.Need-allowed-requires-2
+allowed-requires-2 c κs = search needs
+
+at-most-requires-3 : tie.Need-at-most-requires-3
+at-most-requires-3 c κs = search needs
+
+allowed-requires-3 : tie.Need-allowed-requires-3
+allowed-requires-3 c κs = search needs
+
+at-most-requires-4 : tie.Need-at-most-requires-4
+at-most-requires-4 c κs = search needs
+
+allowed-requires-4 : tie.Need-allowed-requires-4
+allowed-requires-4 c κs = search needs
+
+larger-requires : tie.Need-larger-requires
+larger-requires c κs = search needs
+
+larger-requires-2 : tie.Need-larger-requires-2
+larger-requires-2 c κs = search needs
+
+larger-requires-3 : tie.Need-larger-requires-3
+larger-requires-3 c κs = search needs
+
+returns : tie.Need-returns
+returns c =
+    rw (
+      fetched (c .larger3 .result) (c .larger3 .ok),
+      c .larger3 .ensures,
+      fetched (c .before .before .larger .result) (c .before .before .larger .ok),
+      fetched (c .before .larger2 .result) (c .before .larger2 .ok),
+      c .before .before .larger .ensures,
+      c .before .larger2 .ensures,
+      fetched (c .before .before .before .before .before .before .before .before .before .allowed .result) (c .before .before .before .before .before .before .before .before .before .allowed .ok),
+      fetched (c .before .before .before .before .before .before .before .allowed2 .result) (c .before .before .before .before .before .before .before .allowed2 .ok),
+      fetched (c .before .before .before .before .before .allowed3 .result) (c .before .before .before .before .before .allowed3 .ok),
+      fetched (c .before .before .before .allowed4 .result) (c .before .before .before .allowed4 .ok),
+      c .before .before .before .before .before .before .before .before .before .allowed .ensures,
+      c .before .before .before .before .before .before .before .allowed2 .ensures,
+      c .before .before .before .before .before .allowed3 .ensures,
+      c .before .before .before .allowed4 .ensures,
+      c .before .before .before .before .before .before .before .before .before .before .at-most .ensures,
+      c .before .before .before .before .before .before .before .before .at-most2 .ensures,
+      c .before .before .before .before .before .before .at-most3 .ensures,
+      c .before .before .before .before .at-most4 .ensures,
+      back (c .before .before .before .before .before .before .before .before .before .before .before .fits .reach),
+      back (c .before .before .before .before .before .before .before .before .before .before .before .fits .left),
+      back (c .before .before .before .before .before .before .before .before .before .before .before .fits .place),
+      back (c .before .before .before .before .before .before .before .before .before .before .before .fits .own-left),
+      back (c .before .before .before .before .before .before .before .before .before .before .before .fits .own-right),
+      back (c .before .before .before .before .before .before .before .before .before .before .before .fits .other-left),
+      back (c .before .before .before .before .before .before .before .before .before .before .before .fits .other-right),
+    )
+    refl
+
+pub greatest-spec : {M : Type 1} → statement M
+greatest-spec =
+    tie.close
+    (tie.spec
+    at-most-requires
+    allowed-requires
+    at-most-requires-2
+    allowed-requires-2
+    at-most-requires-3
+    allowed-requires-3
+    at-most-requires-4
+    allowed-requires-4
+    larger-requires
+    larger-requires-2
+    larger-requires-3
+    returns)

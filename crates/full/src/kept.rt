@@ -1,0 +1,116 @@
+// The kept part layouts of a mark: for each of its four positions the greatest reach of the other side with which all later
+// marks can still be placed.
+ghost use mathlib.Core.Path.{_≡_};
+ghost use mathlib.Core.Bool.{true, cond};
+ghost use Prim.Native.Nat.{_≤_};
+ghost use lib.Dec.{leb};
+ghost use Rattle.geometry.specs.Dot.{dot};
+ghost use Rattle.geometry.specs.Mark.{placeInRange};
+ghost use Rattle.full.specs.inner.Row.{candidates, keptOne, KeptBefore};
+use geometry::ends::left_end;
+use geometry::ends::right_end;
+use geometry::order::at_most;
+use geometry::order::larger;
+
+// A reach that no side meets: no part layout is kept for this position.
+pub const NONE: i16 = -32768;
+
+// A reach that every side meets: nothing is left to place.
+pub const NO_BOUND: i16 = 32767;
+
+// The reaches that the four positions, in the order 2, 3, 1, 4, leave to the other side, and how many of them are not NONE.
+pub struct Kept {
+    pub reaches: [i16; 4],
+    pub count: u8,
+}
+
+// The bound, if the test before it was passed.
+fn allowed(passed: bool, bound: i16) -> i16
+    ensures { λ r. ⌜ dot r ≡ cond passed (dot bound) 0 ⌝ }
+{
+    if passed { bound } else { NONE }
+}
+
+// The greatest reach of the other side beside a side that reaches to `reach`, when the next mark, at `place`, leaves its other
+// side `own_left` or `own_right` if it goes left or right on this side, and `other_left` or `other_right` on the other.
+fn greatest(
+    reach: i16,
+    place: i16,
+    left: i16,
+    own_left: i16,
+    own_right: i16,
+    other_left: i16,
+    other_right: i16,
+) -> i16
+    ensures { λ r. ⌜ dot r ≡ candidates (dot reach) (dot left) (dot place) (dot «own_left») (dot «own_right») (dot «other_left») (dot «other_right») ⌝ }
+{
+    let left_here = allowed(at_most(reach, left), own_left);
+    let right_here = allowed(at_most(reach, place), own_right);
+    let left_there = allowed(at_most(reach, other_left), left);
+    let right_there = allowed(at_most(reach, other_right), place);
+    larger(
+        larger(left_here, right_here),
+        larger(left_there, right_there),
+    )
+}
+
+// 1 if a part layout is kept, else 0.
+fn one_if_kept(reach: i16) -> u8
+    ensures { λ r. ⌜ (r ≡ keptOne (dot reach)) × (r ≤ 1) ⌝ }
+{
+    if reach == NONE { 0 } else { 1 }
+}
+
+// The kept part layouts of a mark from those of the next one.
+pub fn kept_before(place: i16, length: u8, next_place: i16, next_length: u8, next: Kept) -> Kept
+    requires { ⌜ (placeInRange place ≡ true) × (placeInRange «next_place» ≡ true) ⌝ }
+    ensures { λ r. ⌜ KeptBefore (dot place) length (dot «next_place») «next_length» (next .reaches) (r .reaches) (r .count) ⌝ }
+{
+    let left = left_end(next_place, next_length);
+    let right = right_end(place, length);
+    let reaches = next.reaches;
+    let above_left = reaches[0];
+    let below_left = reaches[1];
+    let above_right = reaches[2];
+    let below_right = reaches[3];
+    let first = greatest(
+        place,
+        next_place,
+        left,
+        above_left,
+        above_right,
+        below_left,
+        below_right,
+    );
+    let second = greatest(
+        place,
+        next_place,
+        left,
+        below_left,
+        below_right,
+        above_left,
+        above_right,
+    );
+    let third = greatest(
+        right,
+        next_place,
+        left,
+        above_left,
+        above_right,
+        below_left,
+        below_right,
+    );
+    let fourth = greatest(
+        right,
+        next_place,
+        left,
+        below_left,
+        below_right,
+        above_left,
+        above_right,
+    );
+    Kept {
+        reaches: [first, second, third, fourth],
+        count: one_if_kept(first) + one_if_kept(second) + one_if_kept(third) + one_if_kept(fourth),
+    }
+}

@@ -1,0 +1,61 @@
+// The table of kept part layouts in the work area: four numbers a mark, filled from the last mark to the first.
+ghost use mathlib.Core.Path.{_≡_};
+ghost use mathlib.Core.Bool.{true};
+ghost use mathlib.Core.List.{_++_};
+ghost use Prim.Native.Nat.{ℕ, _+_, _*_, _≤_, _<_};
+ghost use lib.IntN.{pos};
+ghost use lib.ListN.{length, drop, replicate};
+ghost use lib.Seq.{sets};
+ghost use Rattle.full.specs.inner.Row.{four};
+ghost use Rattle.full.specs.inner.Table.{Ready, Filled};
+use crate::kept::Kept;
+use crate::kept::NO_BOUND;
+use crate::kept::kept_before;
+
+// Puts the four reaches of the mark with index i into the table.
+fn store(work: &mut [i16], i: usize, kept: Kept)
+    requires { ⌜ (i < 4000) × (4 * i + 4 ≤ length (now work)) ⌝ }
+    ensures { λ _. ⌜ now (work .exit) ≡ sets (now (work .entry)) (4 * i) (four (kept .reaches)) ⌝ }
+{
+    let reaches = kept.reaches;
+    let at = 4 * i;
+    work[at] = reaches[0];
+    work[at + 1] = reaches[1];
+    work[at + 2] = reaches[2];
+    work[at + 3] = reaches[3];
+}
+
+// Fills the table from the last mark to the first and returns the kept part layouts of the first mark, or those of an empty
+// strip, which has nothing left to place.
+pub fn fill(places: &[i16], lengths: &[u8], work: &mut [i16]) -> Kept
+    requires { ⌜ Ready (now places) (now lengths) (now work) ⌝ }
+    ensures { λ r. ⌜ Filled (now (places .entry)) (now (lengths .entry)) (now (work .entry)) (now (work .exit)) (r .count) ⌝ }
+{
+    let mut next = Kept {
+        reaches: [NO_BOUND, NO_BOUND, NO_BOUND, NO_BOUND],
+        count: 4,
+    };
+    if places.len() == 0 {
+        return next;
+    }
+    let mut i = places.len() - 1;
+    store(work, i, next);
+    while 0 < i {
+        next = kept_before(places[i - 1], lengths[i - 1], places[i], lengths[i], next);
+        i -= 1;
+        store(work, i, next);
+    }
+    next
+}
+
+// Sets the first n numbers to 0.
+pub fn clear(work: &mut [i16], n: usize)
+    requires { ⌜ n ≤ length (now work) ⌝ }
+    ensures { λ _. ⌜ now (work .exit) ≡ replicate n (pos 0) ++ drop n (now (work .entry)) ⌝ }
+{
+    let mut i = 0;
+    while i < n {
+        work[i] = 0;
+        i += 1;
+    }
+}
