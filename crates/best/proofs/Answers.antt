@@ -13,7 +13,7 @@ use Rattle.geometry.specs.Position.{code}
 use Rattle.geometry.specs.Refusal.{Verdict, accepted, numberOf}
 use Rattle.geometry.proofs.Accepted.{Accepted, pass-accepted, accepted-rising, length-marks}
 use Rattle.geometry.proofs.Verdicts.{zero-accepted}
-use Rattle.best.specs.BestPass.{Lent, verdictOf, Refused, Labelled, BestPass}
+use Rattle.best.specs.Best.{Lent, verdictOf, BestContract}
 use Rattle.best.specs.declared.answer.Best.{Best}
 use Rattle.best.specs.inner.Worth.{worth, bestFrom}
 use Rattle.best.specs.inner.Table.{Strip}
@@ -32,10 +32,10 @@ module _ (zs : List ℤ) (ls ws : List ℕ) (before : Lent) (n : ℕ) where
       → n ≡ numberOf (passVerdict 60 zs ls ws shortest 15000 (length (before .work))) → n ≡ numberOf (verdictOf zs ls ws before)
   verdict-number shortest e h = h ∙ ap (λ (s : ℕ). numberOf (passVerdict 60 zs ls ws s 15000 (length (before .work)))) e
 
-  pub answer-refused : n ≡ numberOf (verdictOf zs ls ws before) → (n ≡ 0 → ⊥) → BestPass zs ls ws before before (record { number = n; sum = 0; count = 0 })
+  pub answer-refused : n ≡ numberOf (verdictOf zs ls ws before) → (n ≡ 0 → ⊥) → BestContract zs ls ws before before (record { number = n; sum = 0; count = 0 })
   answer-refused e no-zero =
       record {
-        number = e;
+        number-is = e;
         where-refused = λ _. record { sum-zero = refl; count-zero = refl; positions-unchanged = refl; left-out-unchanged = refl; work-unchanged = refl };
         where-accepted = λ a. absurd (number-refused (verdictOf zs ls ws before) n e no-zero a);
       }
@@ -72,7 +72,7 @@ module _ (zs : List ℤ) (ls ws : List ℕ) (before : Lent) (ok : verdictOf zs l
       → after .work ≡ cleared 15000 0 (before .work)
       → after .left-out ≡ written (zerosFrom 1 (take (length zs) (after .positions))) (before .left-out)
       → count ≡ length (zerosFrom 1 (take (length zs) (after .positions)))
-      → BestPass zs ls ws before after (record { number = 0; sum = sum; count = count })
+      → BestContract zs ls ws before after (record { number = 0; sum = sum; count = count })
   answer-accepted after sum count p s w l k =
       let ms = marksOf zs ls ws in
       let a = passed .0 in
@@ -83,7 +83,7 @@ module _ (zs : List ℤ) (ls ws : List ℕ) (before : Lent) (ok : verdictOf zs l
       ∙ take-at (map code choice) (drop (length (map code choice)) (before .positions)) (length zs)
       (length-map choice code ∙ best-length 0 1 1 ms ∙ length-marks zs ls ws (a .same-lengths) (a .same-weights)) in
       record {
-        number = sym (ap numberOf ok);
+        number-is = sym (ap numberOf ok);
         where-refused = λ no. absurd (no ok);
         where-accepted = λ _.
             record {

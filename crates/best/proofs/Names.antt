@@ -5,8 +5,7 @@ use mathlib.Core.List.{List}
 use Prim.Native.Nat.{ℕ, suc, _+_, _-_, _*_, _/_, _%_, _≤_, _<_}
 use native.Mathlib.Omega.{arith}
 use lib.Dec.{leb, ltb, eqb}
-use lib.IntN.{ℤ, pos, negsuc, _+ℤ_}
-use lib.Signed.{mag}
+use lib.IntN.{ℤ, pos}
 use lib.ListN.{length, getD}
 use borrow.Author.Tests.{lt-ltb, le-ltb, eq-eqb, ne-eqb}
 use Rattle.geometry.specs.Dot.{dot}
@@ -14,14 +13,8 @@ use Rattle.geometry.specs.Mark.{Mark}
 use Rattle.geometry.specs.Position.{Side, above, below, Direction, leftward, rightward, Position, unlabelled, at, ownReach}
 use Rattle.geometry.specs.Overlap.{leftEnd, rightEnd}
 use Rattle.geometry.specs.inner.Machine.{nextAbove, nextBelow}
-use Rattle.geometry.proofs.Split.{by-ltb}
 use Rattle.best.specs.inner.Worth.{roomFor}
 use Rattle.best.specs.inner.Names.{markAt, nameOf, directionOf, leftNamed, reachNamed, aboveNamed, belowNamed}
-
--- a coordinate counted from −32,768 is not negative
-pub shifted : (z : ℤ) → mag z < 32768 → z +ℤ pos 32768 ≡ pos (dot z)
-shifted (pos n) h = refl
-shifted (negsuc n) h = by-ltb 32768 (suc n) (λ t. cond t (negsuc (suc n - suc 32768)) (pos (32768 - suc n)) ≡ pos (32767 - n)) (λ k. absurd (omega arith)) (λ k. ap pos (omega arith))
 
 -- the ends, by the two tests that the program makes
 module _ (zs : List ℤ) (ls : List ℕ) (name : ℕ) where

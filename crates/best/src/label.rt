@@ -1,8 +1,8 @@
 // Positions, and the names of labels. A side of the line is described by its last label, and a label by its name: twice the
 // number of its mark, and one more if it lies to the right of the mark. 0 and 1 name no label.
-// Coordinates are counted from −32,768, as the model counts them, so that they are compared without signs.
 use geometry::ends::left_end;
 use geometry::ends::right_end;
+use geometry::order::at_most;
 ghost use mathlib.Core.List.{List};
 ghost use mathlib.Core.Path.{_≡_};
 ghost use Prim.Native.Nat.{ℕ, _+_, _≤_, _<_};
@@ -12,6 +12,9 @@ ghost use Rattle.geometry.specs.Dot.{dot};
 ghost use Rattle.geometry.specs.Position.{code};
 ghost use Rattle.best.specs.inner.Worth.{roomFor};
 ghost use Rattle.best.specs.inner.Names.{positionOf, markAt, leftNamed, reachNamed, aboveNamed, belowNamed, Known};
+
+// The reach of a side without labels: less than any place.
+const NO_LABELS: i16 = -32767;
 
 pub enum Position {
     Unlabelled,
@@ -34,38 +37,31 @@ pub fn code_of(p: Position) -> u8
     }
 }
 
-// A coordinate counted from −32,768.
-pub fn dot_of(z: i16) -> u32
-    ensures { λ r. ⌜ r ≡ dot z ⌝ }
-{
-    (z as i32 + 32768) as u32
-}
-
 // The left end of the label with this name.
-pub fn left_of(places: &[i16], lengths: &[u8], name: usize) -> u32
+pub fn left_of(places: &[i16], lengths: &[u8], name: usize) -> i16
     requires { ⌜ Known (now places) (now lengths) name ⌝ ∗ ⌜ 2 ≤ name ⌝ }
-    ensures { λ r. ⌜ r ≡ leftNamed (now (places .entry)) (now (lengths .entry)) name ⌝ }
+    ensures { λ r. ⌜ dot r ≡ leftNamed (now (places .entry)) (now (lengths .entry)) name ⌝ }
 {
     let i = name / 2 - 1;
     if name % 2 == 0 {
-        return dot_of(left_end(places[i], lengths[i]));
+        return left_end(places[i], lengths[i]);
     }
-    dot_of(places[i])
+    places[i]
 }
 
 // The reach of a side whose last label has this name.
-pub fn reach_of(places: &[i16], lengths: &[u8], name: usize) -> u32
+pub fn reach_of(places: &[i16], lengths: &[u8], name: usize) -> i16
     requires { ⌜ Known (now places) (now lengths) name ⌝ }
-    ensures { λ r. ⌜ r ≡ reachNamed 0 (now (places .entry)) (now (lengths .entry)) name ⌝ }
+    ensures { λ r. ⌜ dot r ≡ reachNamed 0 (now (places .entry)) (now (lengths .entry)) name ⌝ }
 {
     if name < 2 {
-        return 1;
+        return NO_LABELS;
     }
     let i = name / 2 - 1;
     if name % 2 == 0 {
-        return dot_of(places[i]);
+        return places[i];
     }
-    dot_of(right_end(places[i], lengths[i]))
+    right_end(places[i], lengths[i])
 }
 
 // The name of the last label above once mark k, counted from 0, is at p.
@@ -101,7 +97,9 @@ fn clears(places: &[i16], lengths: &[u8], last: usize, name: usize) -> bool
     requires { ⌜ Known (now places) (now lengths) last ⌝ ∗ ⌜ Known (now places) (now lengths) name ⌝ ∗ ⌜ 2 ≤ name ⌝ }
     ensures { λ r. ⌜ r ≡ leb (reachNamed 0 (now (places .entry)) (now (lengths .entry)) last) (leftNamed (now (places .entry)) (now (lengths .entry)) name) ⌝ }
 {
-    reach_of(places, lengths, last) <= left_of(places, lengths, name)
+    let reach = reach_of(places, lengths, last);
+    let left = left_of(places, lengths, name);
+    at_most(reach, left)
 }
 
 // Whether mark k at p has room beside the last labels above and below.

@@ -13,7 +13,7 @@ ghost use lib.ListN.{length};
 ghost use Rattle.geometry.specs.Mark.{marksOf};
 ghost use Rattle.geometry.specs.Pass.{written, cleared};
 ghost use Rattle.geometry.specs.Position.{code};
-ghost use Rattle.best.specs.BestPass.{BestPass, lent};
+ghost use Rattle.best.specs.Best.{BestContract, lent};
 ghost use Rattle.best.specs.inner.Table.{Strip};
 ghost use Rattle.best.specs.inner.Worth.{worth, bestFrom};
 
@@ -49,7 +49,7 @@ pub fn best(
     left_out: &mut [u16],
     work: &mut [u32],
 ) -> Best
-    ensures { λ r. ⌜ BestPass (now (places .entry)) (now (lengths .entry)) (now (weights .entry)) (lent (now (positions .entry)) (now («left_out» .entry)) (now (work .entry))) (lent (now (positions .exit)) (now («left_out» .exit)) (now (work .exit))) r ⌝ }
+    ensures { λ r. ⌜ BestContract (now (places .entry)) (now (lengths .entry)) (now (weights .entry)) (lent (now (positions .entry)) (now («left_out» .entry)) (now (work .entry))) (lent (now (positions .exit)) (now («left_out» .exit)) (now (work .exit))) r ⌝ }
 {
     let shortest = memory::smaller(positions.len(), left_out.len());
     let number = geometry::entry::check_pass(

@@ -3,7 +3,7 @@ use mathlib.Core.Path.{_≡_, refl, sym, _∙_, ap}
 use native.Mathlib.Omega.{arith}
 use lib.ListN.{length}
 use Rattle.geometry.specs.Refusal.{accepted, numberOf}
-use Rattle.best.specs.BestPass.{Lent, lent, verdictOf}
+use Rattle.best.specs.Best.{Lent, lent, verdictOf}
 use Rattle.best.proofs.Answers.{verdict-number, verdict-accepted, answer-refused, accepted-strip, positions-enough, left-out-enough, answer-accepted}
 use borrow.Author.Needs.{needs}
 use Rattle.best.proofs.best.Statement.{statement}

@@ -37,26 +37,20 @@ left-end-requires c κs =
     let a = c .before .before .before .before in
     rw (fetched _ (c .before .left-end-arg .given)) (every-at placeInRange (a .args .places .now) (pos 0) (a .args .name / 2 - 1) (a .pre .0 .places-good) (omega arith))
 
-dot-of-requires : tie.Need-dot-of-requires
-dot-of-requires c κs = search needs
-
 returns : tie.Need-returns
 returns c =
-    c .dot-of .ensures ∙ ap dot (fetched (c .before .left-end .result) (c .before .left-end .ok)) ∙ c .before .left-end .ensures
-    ∙ ap (λ z. dot z - length-of (c .before .before .before .before .before .before)) (fetched (place-of (c .before .before .before .before .before .before)) (c .before .before .before .left-end-arg .given))
-    ∙ left-of-left _ _ _ (c .before .before .before .before .if1 .taken)
+    ap dot (fetched (c .left-end .result) (c .left-end .ok)) ∙ c .left-end .ensures
+    ∙ ap (λ z. dot z - length-of (c .before .before .before .before .before)) (fetched (place-of (c .before .before .before .before .before)) (c .before .before .left-end-arg .given))
+    ∙ left-of-left _ _ _ (c .before .before .before .if1 .taken)
 
-mul-dot-of : tie.Need-mul-dot-of
-mul-dot-of c = search needs
+mul-result : tie.Need-mul-result
+mul-result c = search needs
 
-shared-slice-copy-out-dot-of : tie.Need-shared-slice-copy-out-dot-of
-shared-slice-copy-out-dot-of c = search needs
-
-dot-of-requires-2 : tie.Need-dot-of-requires-2
-dot-of-requires-2 c κs = search needs
+shared-slice-copy-out-result : tie.Need-shared-slice-copy-out-result
+shared-slice-copy-out-result c = search needs
 
 returns-2 : tie.Need-returns-2
-returns-2 c = c .dot-of2 .ensures ∙ ap dot (fetched (place-of (c .before .before .before .before)) (c .before .dot-of-arg .given)) ∙ left-of-right _ _ _ (c .before .before .if1 .left)
+returns-2 c = ap dot (fetched (place-of (c .before .before .before)) (c .result .given)) ∙ left-of-right _ _ _ (c .before .if1 .left)
 
 pub left-of-spec : {M : Type 1} → statement M
 left-of-spec =
@@ -67,9 +61,7 @@ left-of-spec =
     shared-slice-copy-out-left-end
     shared-slice-read-left-end
     left-end-requires
-    dot-of-requires
     returns
-    mul-dot-of
-    shared-slice-copy-out-dot-of
-    dot-of-requires-2
+    mul-result
+    shared-slice-copy-out-result
     returns-2)

@@ -1,6 +1,6 @@
 -- `best::label::reach_of` meets its contract: the two tests tell no label, a leftward and a rightward one apart.
 use mathlib.Core.Path.{_≡_, refl, sym, _∙_, ap}
-use Prim.Native.Nat.{ℕ, _+_, _-_, _/_, _≤_, _<_}
+use Prim.Native.Nat.{ℕ, _+_, _-_, _/_}
 use native.Mathlib.Omega.{arith}
 use native.Mathlib.Nat.{add-zero}
 use lib.IntN.{ℤ, pos}
@@ -27,19 +27,16 @@ returns c = reach-of-none _ _ _ 0 (c .if1 .taken)
 sub-i : tie.Need-sub-i
 sub-i c = search needs
 
-mul-dot-of : tie.Need-mul-dot-of
-mul-dot-of c = search needs
+mul-result : tie.Need-mul-result
+mul-result c = search needs
 
-shared-slice-copy-out-dot-of : tie.Need-shared-slice-copy-out-dot-of
-shared-slice-copy-out-dot-of c = search needs
-
-dot-of-requires : tie.Need-dot-of-requires
-dot-of-requires c κs = search needs
+shared-slice-copy-out-result : tie.Need-shared-slice-copy-out-result
+shared-slice-copy-out-result c = search needs
 
 returns-2 : tie.Need-returns-2
 returns-2 c =
-    c .dot-of .ensures ∙ ap dot (fetched (place-of (c .before .before .before .before .before)) (c .before .dot-of-arg .given)) ∙ sym (add-zero _)
-    ∙ reach-of-left _ _ _ 0 (c .before .before .before .if1 .left) (c .before .before .if2 .taken)
+    ap dot (fetched (place-of (c .before .before .before .before)) (c .result .given)) ∙ sym (add-zero _)
+    ∙ reach-of-left _ _ _ 0 (c .before .before .if1 .left) (c .before .if2 .taken)
 
 mul-right-end : tie.Need-mul-right-end
 mul-right-end c = search needs
@@ -55,14 +52,11 @@ right-end-requires c κs =
     let a = c .before .before .before .before .before in
     rw (fetched _ (c .before .right-end-arg .given)) (every-at placeInRange (a .args .places .now) (pos 0) (a .args .name / 2 - 1) (a .pre .places-good) (omega arith))
 
-dot-of-requires-2 : tie.Need-dot-of-requires-2
-dot-of-requires-2 c κs = search needs
-
 returns-3 : tie.Need-returns-3
 returns-3 c =
-    c .dot-of2 .ensures ∙ ap dot (fetched (c .before .right-end .result) (c .before .right-end .ok)) ∙ c .before .right-end .ensures
-    ∙ ap (λ z. dot z + length-of (c .before .before .before .before .before .before .before)) (fetched (place-of (c .before .before .before .before .before .before .before)) (c .before .before .before .right-end-arg .given)) ∙ sym (add-zero _)
-    ∙ reach-of-right _ _ _ 0 (c .before .before .before .before .before .if1 .left) (c .before .before .before .before .if2 .left)
+    ap dot (fetched (c .right-end .result) (c .right-end .ok)) ∙ c .right-end .ensures
+    ∙ ap (λ z. dot z + length-of (c .before .before .before .before .before .before)) (fetched (place-of (c .before .before .before .before .before .before)) (c .before .before .right-end-arg .given)) ∙ sym (add-zero _)
+    ∙ reach-of-right _ _ _ 0 (c .before .before .before .before .if1 .left) (c .before .before .before .if2 .left)
 
 pub reach-of-spec : {M : Type 1} → statement M
 reach-of-spec =
@@ -70,13 +64,11 @@ reach-of-spec =
     (tie.spec
     returns
     sub-i
-    mul-dot-of
-    shared-slice-copy-out-dot-of
-    dot-of-requires
+    mul-result
+    shared-slice-copy-out-result
     returns-2
     mul-right-end
     shared-slice-copy-out-right-end
     shared-slice-read-right-end
     right-end-requires
-    dot-of-requires-2
     returns-3)

@@ -32,7 +32,7 @@ renew-cell-requires : tie.Need-renew-cell-requires Inv-loop μ-loop
 renew-cell-requires c κs =
     let a = c .before .before .before .before .before .before in
     let h = c .before .before .loop .inv in
-    (strip-again (a .args .work .now) (c .before .before .loop .work) (a .pre .0) (h .1), (a .pre .1 .0, (c .before .loop-test .taken, h .2)))
+    (strip-again (a .args .work .now) (c .before .before .loop .work) (a .pre .0) (h .1), (a .pre .1 .0, (omega arith, h .2)))
 
 add-cell : tie.Need-add-cell Inv-loop μ-loop
 add-cell c = omega arith
@@ -52,7 +52,7 @@ same-length c = c .before .loop .inv .1
 returns : tie.Need-returns Inv-loop μ-loop
 returns c =
     let h = c .before .loop .inv in
-    (all-renewed 0 _ _ _ _ (c .before .loop .cell) _ (c .loop-test .left) (h .2), h .3)
+    (all-renewed 0 _ _ _ _ (c .before .loop .cell) _ (omega arith) (h .2), h .3)
 
 pub renew-spec : {M : Type 1} → statement M
 renew-spec =
