@@ -24,7 +24,7 @@ fn takes_above(work: &[u16], row: usize, place: u16, length: u8, above: u16, bel
     if place < above {
         return false;
     }
-    below < work[row + table::slid(above, place - length as u16)]
+    below < work[row + table::slid(place, length, above)]
 }
 
 // The left edge of a label as far left as it goes.
