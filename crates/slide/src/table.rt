@@ -79,10 +79,11 @@ fn fill_last(work: &mut [u16], row: usize, length: u8)
     requires { do ⌜ (row + 241 ≤ (← ⟦work.len()⟧)) × (length ≤ 240) ⌝ }
     ensures { λ r. ⌜ FilledTo (now (work .entry)) (now (work .exit)) row (length + 1) (λ d. noBound) ⌝ }
 {
-    let mut d = 0;
-    while d <= length as usize {
-        work[row + d] = NO_BOUND;
-        d += 1;
+    let last = length as usize;
+    let mut i = 0;
+    while i <= last {
+        work[row + i] = NO_BOUND;
+        i += 1;
     }
 }
 
