@@ -12,8 +12,9 @@ ghost use Rattle.slide.specs.inner.Room.{slidBy, furthest, ownSide, othe
 ghost use Rattle.slide.specs.inner.Table.{rowFrom, FilledTo, TableHolds, TableFrom};
 
 // Cells of a row: a label slides by 0 to 240 dots.
-const ROW: usize = 241;
+pub const ROW: usize = 241;
 
+// The cell where every reach of the other side will do.
 const NO_BOUND: u16 = 65535;
 
 // How far a label slides from its leftmost place on a side with this reach.
@@ -146,5 +147,5 @@ pub fn fits(places: &[i16], work: &[u16]) -> bool
     if places.len() == 0 {
         return true;
     }
-    1 < work[0]
+    dots::EMPTY_REACH < work[0]
 }
