@@ -2,3 +2,7 @@
 pub mod Rest
 pub mod First
 pub mod Fill
+pub mod Rows
+pub mod Walks
+pub mod WalkSteps
+pub mod Answers

@@ -5,3 +5,44 @@
 // allows. One step a mark in each direction, and no step looks at more than one row.
 mod kept;
 mod table;
+mod walk;
+
+ghost use Rattle.full.specs.Full.{FullContract};
+use geometry::entry::check_pass;
+
+// The part of the work area that is named, and ends as zeros also at 11.
+const WORK: usize = 20000;
+
+const NO_PLACING: u8 = 11;
+
+// The first placing of the strip, or 11 if there is none; 6 to 10 if a check is not passed.
+pub fn full(
+    places: &[i16],
+    lengths: &[u8],
+    weights: &[u16],
+    positions: &mut [u8],
+    work: &mut [i16],
+) -> u8
+    ensures { λ r. ⌜ FullContract (now (places .entry)) (now (lengths .entry)) (now (weights .entry)) (now (positions .entry)) (now (work .entry)) r (now (positions .exit)) (now (work .exit)) ⌝ }
+{
+    let refused = check_pass(
+        places,
+        lengths,
+        weights,
+        4000,
+        positions.len(),
+        20000,
+        work.len(),
+    );
+    if refused != 0 {
+        return refused;
+    }
+    let first = table::fill(places, lengths, work);
+    if first.count == 0 {
+        table::clear(work, WORK);
+        return NO_PLACING;
+    }
+    walk::walk(places, lengths, work, positions);
+    table::clear(work, WORK);
+    0
+}

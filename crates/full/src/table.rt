@@ -7,6 +7,7 @@ ghost use lib.IntN.{pos};
 ghost use lib.ListN.{length, drop, replicate};
 ghost use lib.Seq.{sets};
 ghost use Rattle.full.specs.inner.Row.{four};
+ghost use Rattle.full.specs.inner.Table.{Ready, Filled};
 use crate::kept::Kept;
 use crate::kept::NO_BOUND;
 use crate::kept::kept_before;
@@ -22,6 +23,29 @@ fn store(work: &mut [i16], i: usize, kept: Kept)
     work[at + 1] = reaches[1];
     work[at + 2] = reaches[2];
     work[at + 3] = reaches[3];
+}
+
+// Fills the table from the last mark to the first and returns the kept part layouts of the first mark, or those of an empty
+// strip, which has nothing left to place.
+pub fn fill(places: &[i16], lengths: &[u8], work: &mut [i16]) -> Kept
+    requires { ⌜ Ready (now places) (now lengths) (now work) ⌝ }
+    ensures { λ r. ⌜ Filled (now (places .entry)) (now (lengths .entry)) (now (work .entry)) (now (work .exit)) (r .count) ⌝ }
+{
+    let mut next = Kept {
+        reaches: [NO_BOUND, NO_BOUND, NO_BOUND, NO_BOUND],
+        count: 4,
+    };
+    if places.len() == 0 {
+        return next;
+    }
+    let mut i = places.len() - 1;
+    store(work, i, next);
+    while 0 < i {
+        next = kept_before(places[i - 1], lengths[i - 1], places[i], lengths[i], next);
+        i -= 1;
+        store(work, i, next);
+    }
+    next
 }
 
 // Sets the first n numbers to 0.

@@ -22,7 +22,7 @@ free-length g (m ∷ ms) [] e = clash e refl
 free-length g (m ∷ ms) (p ∷ c) e = ap suc (free-length g ms c (and-snd (apart g m p ms c) (free g ms c) e))
 
 -- the five positions are all there are
-position-listed : (p : Position) → Member p everyPosition
+pub position-listed : (p : Position) → Member p everyPosition
 position-listed unlabelled = inl refl
 position-listed (at above leftward) = inr (inl refl)
 position-listed (at below leftward) = inr (inr (inl refl))

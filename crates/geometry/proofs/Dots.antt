@@ -1,5 +1,5 @@
 -- Signed 16-bit coordinates and their dots: sums, differences and tests of one are those of the other.
-use mathlib.Core.Path.{_≡_, refl, sym, _∙_, ap}
+use mathlib.Core.Path.{_≡_, refl, sym, _∙_, ap, ap₂}
 use mathlib.Core.Bool.{Bool, true, false, not, _&&_}
 use Prim.Native.Nat.{ℕ, zero, suc, _+_, _-_, _≤_, _<_}
 use native.Mathlib.Omega.{arith}
@@ -112,3 +112,7 @@ range-dots (negsuc a) e = let h : a ≤ 29999 = leb-true a 29999 (and-fst (leb a
 pub range-mag : (z : ℤ) → placeInRange z ≡ true → mag z < 32768
 range-mag (pos a) e = let h : a ≤ 30000 = leb-true a 30000 e in omega arith
 range-mag (negsuc a) e = let h : a ≤ 29999 = leb-true a 29999 (and-fst (leb a 29999) true e) in omega arith
+
+-- a test of two numbers that went through 16 bits is the test of the numbers
+pub told : {x y : ℤ} {t : Bool} → SFits w16 x → SFits w16 y → t ≡ leb (dot (toZ w16 (ofZ w16 x))) (dot (toZ w16 (ofZ w16 y))) → t ≡ leb (dot x) (dot y)
+told h k e = e ∙ ap₂ (λ (a b : ℤ). leb (dot a) (dot b)) (back h) (back k)

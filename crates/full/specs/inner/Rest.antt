@@ -1,10 +1,14 @@
 -- What the rest of a strip can still do beside two reaches, and the walk that takes the first position that leaves it possible.
-use Prim.Native.Nat.{ℕ}
+use Prim.Native.Nat.{ℕ, _<_}
+use mathlib.Core.Path.{_≡_}
 use mathlib.Core.List.{List, [], _∷_}
 use mathlib.Core.Bool.{Bool, true, false, cond, _&&_, _||_}
 use lib.Dec.{leb}
+use lib.IntN.{ℤ}
+use lib.Signed.{mag}
+use Rattle.geometry.specs.Dot.{dot}
 use Rattle.geometry.specs.Mark.{Mark}
-use Rattle.geometry.specs.Position.{Position, unlabelled, at, above, below, leftward, rightward, ownReach}
+use Rattle.geometry.specs.Position.{Position, unlabelled, at, above, below, leftward, rightward, code, ownReach, aboveAfter, belowAfter}
 use Rattle.geometry.specs.Overlap.{leftEnd}
 use Rattle.geometry.specs.inner.Machine.{nextAbove, nextBelow}
 
@@ -36,3 +40,32 @@ pick g a b m ms =
 unfoldable pub walk : ℕ → ℕ → ℕ → List Mark → List Position
 walk g a b [] = []
 walk g a b (m ∷ ms) = let p = pick g a b m ms in p ∷ walk g (nextAbove g a m p) (nextBelow g b m p) ms
+
+-- the same by what a row leaves: the left ends of the two directions, and the four reaches in the order 2, 3, 1, 4
+abbrev pub pickByRow : ℕ → ℕ → ℕ → ℕ → ℕ → ℕ → ℕ → Position
+pickByRow a b left right first second third =
+    cond (leb a left && leb b first) (at above leftward)
+    (cond (leb b left && leb a second) (at below leftward)
+    (cond (leb a right && leb b third) (at above rightward) (at below rightward)))
+
+-- where a label in a direction ends, from the two right ends
+abbrev pub endOf : Position → ℕ → ℕ → ℕ
+endOf unlabelled x y = x
+endOf (at s leftward) x y = x
+endOf (at s rightward) x y = y
+
+abbrev pub aboveBy : Position → ℕ → ℕ → ℕ
+aboveBy unlabelled end a = a
+aboveBy (at s d) end a = aboveAfter s end a
+
+abbrev pub belowBy : Position → ℕ → ℕ → ℕ
+belowBy unlabelled end b = b
+belowBy (at s d) end b = belowAfter s end b
+
+-- a step of the walk over signed numbers: the position's number and the two reaches after it
+pub record Stepped (p : Position) (above below place right : ℤ) (position : ℕ) (above′ below′ : ℤ) : Type 0 where
+  pub position-is : position ≡ code p
+  pub above-is : dot above′ ≡ aboveBy p (endOf p (dot place) (dot right)) (dot above)
+  pub below-is : dot below′ ≡ belowBy p (endOf p (dot place) (dot right)) (dot below)
+  pub above-held : mag above′ < 32768
+  pub below-held : mag below′ < 32768
