@@ -77,7 +77,7 @@ fn greater(a: u16, b: u16) -> u16
 
 // The row of the last mark: whatever it does, the rest goes.
 fn fill_last(work: &mut [u16], row: usize, length: u8)
-    requires { do ⌜ (row + 241 ≤ (← ⟦work.len()⟧)) × (length ≤ 240) ⌝ }
+    requires { do ⌜ (row + 241 ≤ (← ⟦work.len()⟧)) × (1 ≤ length) × (length ≤ 240) ⌝ }
     ensures { λ r. ⌜ FilledTo (now (work .entry)) (now (work .exit)) row (length + 1) (λ d. noBound) ⌝ }
 {
     let last = length as usize;
@@ -90,7 +90,7 @@ fn fill_last(work: &mut [u16], row: usize, length: u8)
 
 // The row of a mark from the row of the next one. The bounds fall as the reach grows, so each scan goes on where the last one stopped.
 fn fill_row(work: &mut [u16], row: usize, place: u16, length: u8, next_place: u16, next_length: u8)
-    requires { do ⌜ (row + 482 ≤ (← ⟦work.len()⟧)) × (length ≤ 240) × (place + length < 65535) × («next_length» ≤ 240) × («next_length» < «next_place») × («next_place» < 65535) ⌝ }
+    requires { do ⌜ (row + 482 ≤ (← ⟦work.len()⟧)) × (1 ≤ length) × (length ≤ 240) × (place + length < 65535) × («next_length» ≤ 240) × («next_length» < «next_place») × («next_place» < 65535) ⌝ }
     ensures { λ r. ⌜ FilledTo (now (work .entry)) (now (work .exit)) row (length + 1) (λ d. roomBefore (plainMark «next_place» «next_length») (place + d) (rowFrom (now (work .entry)) (row + 241))) ⌝ }
 {
     let next = row + ROW;
