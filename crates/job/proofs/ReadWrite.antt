@@ -163,7 +163,7 @@ record-inverse first z (map ∷ bs) x pz h e =
     let step = field-inverse stepField (bitStands 0 map) bs (q .first) refl (front-two bs tail) tail (q .is) in
     let len = field-inverse lengthField (bitStands 1 map) (q .first .rest) (t .first) refl (front-one (q .first .rest) (step .tail)) (step .tail) (t .is) in
     let wt = field-inverse weightField (bitStands 2 map) (t .first .rest) (u .first) refl (front-two (t .first .rest) (len .tail)) (len .tail) (u .is) in
-    rw (← given-same _ x (u .after)) (together first z map pz bs (h 0) (not-true _ (p .passes)) (q .first) (t .first) (u .first) (r .passes) step len wt)
+    rw (← given-same (record { value = record { place = y; labelLength = t .first .value; weight = u .first .value }; rest = u .first .rest }) x (u .after)) (together first z map pz bs (h 0) (not-true _ (p .passes)) (q .first) (t .first) (u .first) (r .passes) step len wt)
 
 -- all records
 pub record Back (first : Bool) (z : ℤ) (bs : List ℕ) (ms : Marks) : Type 0 where
