@@ -2,26 +2,20 @@
 use mathlib.Core.Path.{_≡_, refl, sym, _∙_, ap}
 use mathlib.Core.Bool.{Bool, true, false, cond, _&&_}
 use mathlib.Core.List.{List, [], _∷_}
-use mathlib.Core.Logic.{_⊎_, inl, inr}
-use Prim.Native.Nat.{ℕ, suc, _+_, _-_, _*_, _/_, _%_, _≤_, _<_, max}
+use Prim.Native.Nat.{ℕ, suc, _+_, _/_, _≤_, _<_, max}
 use native.Mathlib.Omega.{arith}
-use native.Mathlib.Decide.{decLe}
-use lib.Dec.{ltb, eqb}
 use lib.IntN.{ℤ}
-use lib.ListN.{length, getD, set, drop}
-use lib.Seq.{getD-set-same, getD-set-other}
-use borrow.Author.Tests.{lt-ltb, le-ltb}
+use lib.ListN.{length, getD, drop}
+use borrow.Author.Tests.{le-ltb}
 use Rattle.geometry.specs.Lists.{greatestOf}
-use Rattle.geometry.specs.Mark.{Mark, marksOf}
+use Rattle.geometry.specs.Mark.{marksOf}
 use Rattle.geometry.specs.Position.{Side, above, below, Direction, leftward, rightward, Position, unlabelled, at, everyPosition}
 use Rattle.geometry.specs.inner.Machine.{nextAbove, nextBelow}
-use Rattle.geometry.proofs.Split.{by-eqb, lt-or-ge}
 use Rattle.geometry.proofs.Accepted.{marks-from}
-use Rattle.best.specs.inner.Worth.{roomFor, earnedBy, worth}
+use Rattle.best.specs.inner.Worth.{earnedBy, worth}
 use Rattle.best.specs.inner.Names.{markAt, nameOf, reachNamed, aboveNamed, belowNamed, Known}
-use Rattle.best.specs.inner.Table.{cellOf, cellAfter, cellWorth, Partly, Filled, Strip, Beside, Light, roomAt, gainAt}
+use Rattle.best.specs.inner.Table.{cellOf, cellAfter, cellWorth, Partly, Strip, Beside, Light, roomAt, gainAt}
 use Rattle.best.proofs.Names.{above-named, below-named}
-use Rattle.best.proofs.Worth.{worth-limit}
 
 name-small : (k : ℕ) (d : Direction) → k < 60 → nameOf k d < 122
 name-small k leftward h = omega arith

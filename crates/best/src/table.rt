@@ -3,10 +3,9 @@
 use crate::label;
 use crate::label::Position;
 use crate::memory;
-ghost use mathlib.Core.List.{List};
 ghost use mathlib.Core.Path.{_≡_};
 ghost use mathlib.Core.Bool.{cond};
-ghost use Prim.Native.Nat.{ℕ, suc, _+_, _*_, _≤_, _<_, max};
+ghost use Prim.Native.Nat.{suc, _+_, _*_, _≤_, _<_, max};
 ghost use lib.ListN.{length, getD, drop};
 ghost use Rattle.geometry.specs.Lists.{greatestOf};
 ghost use Rattle.geometry.specs.Position.{everyPosition};
