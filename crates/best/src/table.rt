@@ -82,68 +82,17 @@ fn most(
     requires { ⌜ Strip (now places) (now lengths) (now weights) (now work) ⌝ ∗ ⌜ Beside (now places) k above below ⌝ ∗ ⌜ Light (now work) k above below ⌝ }
     ensures { λ r. ⌜ r ≡ greatestOf (roomAt 0 (now (places .entry)) (now (lengths .entry)) (now (weights .entry)) k above below) (gainAt (now (weights .entry)) (now (work .entry)) k above below) everyPosition ⌝ }
 {
-    let e = offer(
-        places,
-        lengths,
-        weights,
-        work,
-        k,
-        Position::BelowRight,
-        above,
-        below,
-    );
-    let d = larger(
-        offer(
-            places,
-            lengths,
-            weights,
-            work,
-            k,
-            Position::AboveRight,
-            above,
-            below,
-        ),
-        e,
-    );
-    let c = larger(
-        offer(
-            places,
-            lengths,
-            weights,
-            work,
-            k,
-            Position::BelowLeft,
-            above,
-            below,
-        ),
-        d,
-    );
-    let b = larger(
-        offer(
-            places,
-            lengths,
-            weights,
-            work,
-            k,
-            Position::AboveLeft,
-            above,
-            below,
-        ),
-        c,
-    );
-    larger(
-        offer(
-            places,
-            lengths,
-            weights,
-            work,
-            k,
-            Position::Unlabelled,
-            above,
-            below,
-        ),
-        b,
-    )
+    let mut best = 0;
+    let mut i = 0;
+    while i < 5 {
+        let p = label::position_at(i);
+        best = larger(
+            best,
+            offer(places, lengths, weights, work, k, p, above, below),
+        );
+        i += 1;
+    }
+    best
 }
 
 // One cell for one mark more, if its last labels are of marks before mark k.
