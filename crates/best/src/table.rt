@@ -1,5 +1,5 @@
 // The table: for each pair of last labels, 122 names above and 122 below, the most that the marks after them can still earn.
-// At 60 marks 446,520 cells are visited, and at 295,240 of them four positions are tried: some 1.6 million steps.
+// At 60 marks 446,520 cells are visited and 295,240 of them renewed with five offers each: some 1.9 million steps.
 use crate::label;
 use crate::label::Position;
 use crate::memory;

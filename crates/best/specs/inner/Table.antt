@@ -19,7 +19,8 @@ cellOf x y = x * 122 + y
 abbrev pub cellAfter : ℕ → ℕ → ℕ → Position → ℕ
 cellAfter k x y p = cellOf (aboveNamed k p x) (belowNamed k p y)
 
--- what the marks from number k + 1 on earn beside the last labels x above and y below, those of the marks up to the later of the two left out
+-- what the marks from index k on earn beside the last labels x above and y below; the marks up to the later of the two labels lie
+-- behind and count no more
 unfoldable pub cellWorth : ℕ → List ℤ → List ℕ → List ℕ → ℕ → ℕ → ℕ → ℕ
 cellWorth g zs ls ws k x y = worth g (reachNamed g zs ls x) (reachNamed g zs ls y) (drop (max k (max (x / 2) (y / 2))) (marksOf zs ls ws))
 
