@@ -10,6 +10,9 @@ mod walk;
 ghost use Rattle.full.specs.Full.{FullContract};
 use geometry::entry::check_pass;
 
+// The part of the work area that is named, and ends as zeros also at 11.
+const WORK: usize = 20000;
+
 const NO_PLACING: u8 = 11;
 
 // The first placing of the strip, or 11 if there is none; 6 to 10 if a check is not passed.
@@ -36,10 +39,10 @@ pub fn full(
     }
     let first = table::fill(places, lengths, work);
     if first.count == 0 {
-        table::clear(work, 20000);
+        table::clear(work, WORK);
         return NO_PLACING;
     }
     walk::walk(places, lengths, work, positions);
-    table::clear(work, 20000);
+    table::clear(work, WORK);
     0
 }

@@ -1,24 +1,22 @@
 -- A sliding placing at any denominator exists iff one with whole leftmost edges does: fractions of a dot never help.
-use mathlib.Core.Path.{_≡_, refl, sym, _∙_, ap}
-use mathlib.Core.Bool.{Bool, true, false, _&&_}
-use mathlib.Core.Logic.{_⊎_, inl, inr, ⊎-elim}
-use mathlib.Core.List.{List, [], _∷_, map}
-use Prim.Native.Nat.{ℕ, zero, suc, _+_, _-_, _*_, _≤_, _<_, max}
-use native.Mathlib.Nat.{mul-add, mul-le-mul-left, mul-lt-mul-of-pos-left, le-of-mul-le-mul-left, one-mul, mul-one}
+use mathlib.Core.Path.{_≡_, refl, ap}
+use mathlib.Core.Bool.{true}
+use mathlib.Core.Logic.{inl, inr}
+use mathlib.Core.List.{List, [], _∷_}
+use Prim.Native.Nat.{ℕ, suc, _+_, _-_, _*_, _≤_, _<_, max}
+use native.Mathlib.Nat.{mul-add, mul-le-mul-left, mul-lt-mul-of-pos-left, le-of-mul-le-mul-left}
 use native.Mathlib.Omega.{arith}
 use native.Mathlib.Decide.{decLe}
-use borrow.Author.Tests.{leb-true, le-leb}
-use lib.Dec.{leb}
+use borrow.Author.Tests.{le-leb}
 use lib.ListN.{length}
 use Rattle.geometry.specs.Dot.{emptyReach}
-use Rattle.geometry.specs.Lists.{anyOf, wordsOf}
 use Rattle.geometry.specs.Mark.{Mark}
 use Rattle.geometry.specs.Position.{Side, above, below, ownReach, aboveAfter, belowAfter}
 use Rattle.geometry.specs.Sliding.{EdgeAllowed, EdgesApart, ApartOnSide, SlidingPlacing, Slides, leftmostEdge, edgesFrom, leftmostEdges, noneBeyond, slidesWhole}
 use Rattle.geometry.specs.inner.Rising.{Rising}
-use Rattle.geometry.proofs.Split.{both, and-fst, and-snd}
+use Rattle.geometry.proofs.Split.{both}
 use Rattle.geometry.proofs.Rising.{rising-rest, rising-first}
-use Rattle.geometry.proofs.AnyWord.{bothSides, any-sides, Found, sides-found}
+use Rattle.geometry.proofs.AnyWord.{any-sides}
 
 -- n times the greater of two numbers is within what both allow
 max-scaled : (n s t e : ℕ) → n * s ≤ e → n * t ≤ e → n * max s t ≤ e

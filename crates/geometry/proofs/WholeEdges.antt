@@ -1,17 +1,17 @@
 -- Leftmost edges that are all allowed are a sliding placing at denominator 1, and a placing at 1 is one at every denominator.
-use mathlib.Core.Path.{_≡_, refl, sym, _∙_, ap}
-use mathlib.Core.Bool.{Bool, true, false, _&&_}
+use mathlib.Core.Path.{_≡_, refl, ap}
+use mathlib.Core.Bool.{true, false}
 use mathlib.Core.Logic.{inl, inr, _↔_}
 use mathlib.Core.List.{List, [], _∷_, map}
-use Prim.Native.Nat.{ℕ, zero, suc, _+_, _-_, _*_, _≤_, _<_, max}
-use native.Mathlib.Nat.{mul-add, mul-le-mul-left, one-mul}
+use Prim.Native.Nat.{ℕ, _+_, _*_, _≤_}
+use native.Mathlib.Nat.{mul-add, mul-le-mul-left}
 use native.Mathlib.Omega.{arith}
 use borrow.Author.Tests.{leb-true}
 use lib.Dec.{leb}
 use lib.ListN.{length}
 use Rattle.geometry.specs.Mark.{Mark}
 use Rattle.geometry.specs.Position.{Side, above, below, ownReach, aboveAfter, belowAfter}
-use Rattle.geometry.specs.Sliding.{EdgeAllowed, EdgesApart, ApartOnSide, SlidingPlacing, Slides, leftmostEdge, edgesFrom, leftmostEdges, noneBeyond, slidesWhole}
+use Rattle.geometry.specs.Sliding.{EdgesApart, ApartOnSide, SlidingPlacing, Slides, leftmostEdge, edgesFrom, leftmostEdges, noneBeyond, slidesWhole}
 use Rattle.geometry.specs.inner.Rising.{Rising}
 use Rattle.geometry.proofs.Split.{and-fst, and-snd, clash}
 use Rattle.geometry.proofs.AnyWord.{Found, sides-found}

@@ -1,0 +1,15 @@
+-- `job::writer::field_bit` meets its contract.
+use mathlib.Core.Path.{_≡_, refl, sym, _∙_, ap}
+use native.Mathlib.Omega.{arith}
+use borrow.Author.Tests.{eq-eqb, ne-eqb}
+use Rattle.job.proofs.writer.field_bit.Statement.{statement}
+use Rattle.job.proofs.writer.field_bit.Tie as tie
+
+returns : tie.Need-returns
+returns c = (rw (eq-eqb _ _ (c .if1 .taken)) refl, omega arith)
+
+returns-2 : tie.Need-returns-2
+returns-2 c = (rw (ne-eqb _ _ (c .if1 .left)) refl, omega arith)
+
+pub field-bit-spec : {M : Type 1} → statement M
+field-bit-spec = tie.close (tie.spec returns returns-2)

@@ -1,0 +1,7 @@
+// Job bytes: the reader and the writer, each over one record at a time.
+pub mod answer;
+mod dots;
+mod field;
+pub mod reader;
+mod record;
+pub mod writer;

@@ -1,0 +1,91 @@
+-- `slide::table::fill_row` meets its contract: after d turns the first d cells are right, and the scan may go on where it stopped.
+use mathlib.Core.Path.{_≡_}
+use Prim.Native.Nat.{_+_, _≤_, _-_}
+use native.Mathlib.Omega.{arith}
+use borrow.Author.Needs.{needs}
+use Rattle.slide.specs.inner.Plain.{plainMark}
+use Rattle.slide.proofs.Rows.{Scanned, scanned-none, found-within, scanned-more}
+use Rattle.slide.proofs.table.fill_row.Statement.{statement}
+use Rattle.slide.proofs.table.fill_row.Tie as tie
+
+abbrev Inv-loop : tie.InvT-loop
+Inv-loop work₀ row place length next-place next-length next slides₀ d₀ work slides d =
+    (d ≤ length + 1) × Scanned work₀ work row place (plainMark next-place next-length) d slides
+
+abbrev μ-loop : tie.MeasureT-loop
+μ-loop work₀ row place length next-place next-length next slides₀ d₀ work slides d = length + 1 - d
+
+add-next : tie.Need-add-next Inv-loop μ-loop
+add-next c = omega arith
+
+add-slides : tie.Need-add-slides Inv-loop μ-loop
+add-slides c = omega arith
+
+loop-holds : tie.Need-loop-holds Inv-loop μ-loop
+loop-holds c = (omega arith, scanned-none _ _ _ _)
+
+cast-reach : tie.Need-cast-reach Inv-loop μ-loop
+cast-reach c = omega arith
+
+add-reach : tie.Need-add-reach Inv-loop μ-loop
+add-reach c = omega arith
+
+furthest-slide-requires : tie.Need-furthest-slide-requires Inv-loop μ-loop
+furthest-slide-requires c κs = omega arith
+
+own-side-requires : tie.Need-own-side-requires Inv-loop μ-loop
+own-side-requires c κs = omega arith
+
+other-side-requires : tie.Need-other-side-requires Inv-loop μ-loop
+other-side-requires c κs = (omega arith, omega arith, found-within _ _ _ _ _ _ _ _ 0 0 0 (c .before .before .before .before .before .loop .inv .1) (c .before .before .furthest-slide .ensures))
+
+greater-requires : tie.Need-greater-requires Inv-loop μ-loop
+greater-requires c κs = search needs
+
+add-work : tie.Need-add-work Inv-loop μ-loop
+add-work c = omega arith
+
+mul-work : tie.Need-mul-work Inv-loop μ-loop
+mul-work c = omega arith
+
+slice-write-work : tie.Need-slice-write-work Inv-loop μ-loop
+slice-write-work c = omega arith
+
+add-d : tie.Need-add-d Inv-loop μ-loop
+add-d c = omega arith
+
+loop-less : tie.Need-loop-less Inv-loop μ-loop
+loop-less c = omega arith
+
+loop-again : tie.Need-loop-again Inv-loop μ-loop
+loop-again c = (omega arith, scanned-more _ _ _ _ _ _ _ _ _ _ _ (c .before .before .before .before .before .before .before .loop .inv .1) (c .before .before .before .before .furthest-slide .ensures) (c .before .before .own-side .ensures) (c .before .other-side .ensures) (c .greater .ensures) (omega arith) (omega arith))
+
+same-length : tie.Need-same-length Inv-loop μ-loop
+same-length c = c .before .loop .inv .1 .filled .same-length
+
+returns : tie.Need-returns Inv-loop μ-loop
+returns c = let e : c .before .loop .d ≡ c .before .before .before .args .length + 1 = omega arith in rw (← e) (c .before .loop .inv .1 .filled)
+
+pub fill-row-spec : {M : Type 1} → statement M
+fill-row-spec =
+    tie.close
+    (tie.spec
+    Inv-loop
+    μ-loop
+    add-next
+    add-slides
+    loop-holds
+    cast-reach
+    add-reach
+    furthest-slide-requires
+    own-side-requires
+    other-side-requires
+    greater-requires
+    add-work
+    mul-work
+    slice-write-work
+    add-d
+    loop-less
+    loop-again
+    same-length
+    returns)

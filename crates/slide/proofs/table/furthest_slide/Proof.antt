@@ -1,0 +1,50 @@
+-- `slide::table::furthest_slide` meets its contract: the answer for the whole row is that for what is left of it.
+use mathlib.Core.Path.{_≡_, refl, sym, _∙_}
+use Prim.Native.Nat.{_≤_}
+use native.Mathlib.Omega.{arith}
+use Rattle.slide.specs.inner.Room.{furthest}
+use Rattle.slide.specs.inner.Table.{rowFrom}
+use Rattle.slide.proofs.Furthest.{furthest-found, furthest-next, furthest-none}
+use Rattle.slide.proofs.table.furthest_slide.Statement.{statement}
+use Rattle.slide.proofs.table.furthest_slide.Tie as tie
+
+abbrev Inv-loop : tie.InvT-loop
+Inv-loop work row reach count d₀ d = (d ≤ count) × (furthest (rowFrom work row) reach count ≡ furthest (rowFrom work row) reach d)
+
+abbrev μ-loop : tie.MeasureT-loop
+μ-loop work row reach count d₀ d = d
+
+loop-holds : tie.Need-loop-holds Inv-loop μ-loop
+loop-holds c = (omega arith, refl)
+
+sub-if1 : tie.Need-sub-if1 Inv-loop μ-loop
+sub-if1 c = omega arith
+
+add-if1 : tie.Need-add-if1 Inv-loop μ-loop
+add-if1 c = omega arith
+
+mul-if1 : tie.Need-mul-if1 Inv-loop μ-loop
+mul-if1 c = omega arith
+
+shared-slice-read-if1 : tie.Need-shared-slice-read-if1 Inv-loop μ-loop
+shared-slice-read-if1 c = omega arith
+
+returns : tie.Need-returns Inv-loop μ-loop
+returns c = sym (c .before .before .before .loop .inv .1 ∙ furthest-found _ _ _ (c .before .before .loop-test .taken) (c .if1 .taken))
+
+sub-d : tie.Need-sub-d Inv-loop μ-loop
+sub-d c = omega arith
+
+loop-less : tie.Need-loop-less Inv-loop μ-loop
+loop-less c = omega arith
+
+loop-again : tie.Need-loop-again Inv-loop μ-loop
+loop-again c = (omega arith, c .before .before .before .loop .inv .1 ∙ furthest-next _ _ _ (c .before .before .loop-test .taken) (c .if1 .left))
+
+returns-2 : tie.Need-returns-2 Inv-loop μ-loop
+returns-2 c = sym (c .before .loop .inv .1 ∙ furthest-none _ _ _ (omega arith))
+
+pub furthest-slide-spec : {M : Type 1} → statement M
+furthest-slide-spec =
+    tie.close
+    (tie.spec Inv-loop μ-loop loop-holds sub-if1 add-if1 mul-if1 shared-slice-read-if1 returns sub-d loop-less loop-again returns-2)
