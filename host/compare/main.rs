@@ -16,6 +16,7 @@ mod job;
 mod labels;
 mod lent;
 mod marks;
+mod near;
 mod slide;
 
 fn main() {

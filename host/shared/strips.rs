@@ -80,23 +80,3 @@ pub fn fitting_strip(random: &mut Random, marks: usize, shape: Shape) -> Strip {
     }
     at_some_place(random, &offsets, lengths)
 }
-
-// A strip that is about to fit or not: one that fits, with some labels lengthened.
-pub fn near_strip(random: &mut Random, marks: usize, shape: Shape) -> Strip {
-    let mut strip = fitting_strip(random, marks, shape);
-    for _ in 0..random.below(3) {
-        if !strip.lengths.is_empty() {
-            let at = random.below(strip.lengths.len());
-            strip.lengths[at] = strip.lengths[at].saturating_add(random.between(1, 3) as u8).min(240);
-        }
-    }
-    strip
-}
-
-pub fn some_strip(random: &mut Random, marks: usize, shape: Shape) -> Strip {
-    match random.below(3) {
-        0 => any_strip(random, marks, shape),
-        1 => fitting_strip(random, marks, shape),
-        _ => near_strip(random, marks, shape),
-    }
-}
