@@ -66,9 +66,8 @@ fn plain_slide(s: &Strip, _: &[u8], l: &mut Lists) {
 }
 
 fn best(s: &Strip, _: &[u8], l: &mut Lists) {
-    l.number = calls::best(
-        &s.places, &s.lengths, &s.weights, &mut l.bytes, &mut l.words, &mut l.work_u32, &mut l.sum, &mut l.count,
-    );
+    l.number =
+        calls::best(&s.places, &s.lengths, &s.weights, &mut l.bytes, &mut l.words, &mut l.work_u32, &mut l.sum, &mut l.count);
 }
 
 fn plain_best(s: &Strip, _: &[u8], l: &mut Lists) {

@@ -127,5 +127,9 @@ pub fn decode(job: &[u8], room: usize) -> Result<Strip, u8> {
         strip.weights.push(field(&mut bytes, map & 4 != 0, 2, 1, 1_000)? as u16);
         strip.places.push(place as i16);
     }
-    if bytes.is_empty() { Ok(strip) } else { Err(5) }
+    if bytes.is_empty() {
+        Ok(strip)
+    } else {
+        Err(5)
+    }
 }

@@ -79,13 +79,7 @@ pub fn compare(random: &mut Random, call: &Call, first: fn(&Strip) -> Option<Vec
     let mut marks = LentMarks::of(random, &call.strip);
     let mut positions: Lent<u8> = Lent::of_length(random, call.answers[0]);
     let mut work: Lent<i16> = Lent::of_length(random, call.work);
-    let number = calls::full(
-        marks.places.list(),
-        marks.lengths.list(),
-        marks.weights.list(),
-        positions.list(),
-        work.list(),
-    );
+    let number = calls::full(marks.places.list(), marks.lengths.list(), marks.weights.list(), positions.list(), work.list());
     marks.unchanged()?;
     let entry = pass_number(call, &LIMITS);
     if entry != 0 {

@@ -116,30 +116,70 @@ pub fn run_all() -> usize {
     let reader = |random: &mut Random, case: &ReadCase| job::compare_read(random, &case.bytes, case.rooms);
     let writer = |random: &mut Random, case: &WriteCase| job::compare_write(random, &case.strip, case.room);
     [
-        group("full, to 9 marks, plain search", 1, 30_000, &[0, 6, 8, 9, 10, 11], |r| small_call(r, 9, &full::LIMITS), |r, c| {
-            full::compare(r, c, full::by_plain_search)
-        }),
-        group("full, to 9 marks, dead ends kept", 2, 10_000, &[0, 6, 8, 9, 10, 11], |r| small_call(r, 9, &full::LIMITS), |r, c| {
-            full::compare(r, c, full::by_dead_ends)
-        }),
-        group("full, to 4,000 marks, dead ends kept", 3, 3_000, &[0, 6, 7, 8, 9, 10, 11], |r| large_call(r, &full::LIMITS), |r, c| {
-            full::compare(r, c, full::by_dead_ends)
-        }),
-        group("slide, to 6 marks, parts of a dot", 4, 3_000, &[0, 11], |r| crowded_call(r, &slide::LIMITS), |r, c| {
-            slide::compare(r, c, slide::by_parts_of_a_dot)
-        }),
-        group("slide, to 10 marks, all sides", 5, 20_000, &[0, 6, 8, 9, 10, 11], |r| small_call(r, 10, &slide::LIMITS), |r, c| {
-            slide::compare(r, c, slide::by_all_sides)
-        }),
-        group("slide, to 60 marks, all reaches", 6, 4_000, &[0, 6, 7, 8, 9, 10, 11], |r| large_call(r, &slide::LIMITS), |r, c| {
-            slide::compare(r, c, slide::by_reaches)
-        }),
-        group("best, to 6 marks, plain search", 7, 20_000, &[0, 6, 8, 9, 10], |r| small_call(r, 6, &best::LIMITS), |r, c| {
-            best::compare(r, c, best::by_plain_search)
-        }),
-        group("best, to 60 marks, all reaches", 8, 1_500, &[0, 6, 7, 8, 9, 10], |r| large_call(r, &best::LIMITS), |r, c| {
-            best::compare(r, c, best::by_reaches)
-        }),
+        group(
+            "full, to 9 marks, plain search",
+            1,
+            30_000,
+            &[0, 6, 8, 9, 10, 11],
+            |r| small_call(r, 9, &full::LIMITS),
+            |r, c| full::compare(r, c, full::by_plain_search),
+        ),
+        group(
+            "full, to 9 marks, dead ends kept",
+            2,
+            10_000,
+            &[0, 6, 8, 9, 10, 11],
+            |r| small_call(r, 9, &full::LIMITS),
+            |r, c| full::compare(r, c, full::by_dead_ends),
+        ),
+        group(
+            "full, to 4,000 marks, dead ends kept",
+            3,
+            3_000,
+            &[0, 6, 7, 8, 9, 10, 11],
+            |r| large_call(r, &full::LIMITS),
+            |r, c| full::compare(r, c, full::by_dead_ends),
+        ),
+        group(
+            "slide, to 6 marks, parts of a dot",
+            4,
+            3_000,
+            &[0, 11],
+            |r| crowded_call(r, &slide::LIMITS),
+            |r, c| slide::compare(r, c, slide::by_parts_of_a_dot),
+        ),
+        group(
+            "slide, to 10 marks, all sides",
+            5,
+            20_000,
+            &[0, 6, 8, 9, 10, 11],
+            |r| small_call(r, 10, &slide::LIMITS),
+            |r, c| slide::compare(r, c, slide::by_all_sides),
+        ),
+        group(
+            "slide, to 60 marks, all reaches",
+            6,
+            4_000,
+            &[0, 6, 7, 8, 9, 10, 11],
+            |r| large_call(r, &slide::LIMITS),
+            |r, c| slide::compare(r, c, slide::by_reaches),
+        ),
+        group(
+            "best, to 6 marks, plain search",
+            7,
+            20_000,
+            &[0, 6, 8, 9, 10],
+            |r| small_call(r, 6, &best::LIMITS),
+            |r, c| best::compare(r, c, best::by_plain_search),
+        ),
+        group(
+            "best, to 60 marks, all reaches",
+            8,
+            1_500,
+            &[0, 6, 7, 8, 9, 10],
+            |r| large_call(r, &best::LIMITS),
+            |r, c| best::compare(r, c, best::by_reaches),
+        ),
         group("read, to 40 marks", 9, 30_000, &[0, 1, 2, 3, 4, 5, 9], |r| read_case(r, 40), reader),
         group("read, to 4,000 marks", 10, 1_000, &[0, 1, 2, 3, 4, 5, 9], |r| read_case(r, 4_000), reader),
         group("write, to 40 marks", 11, 15_000, &[0, 6, 7, 8, 9], |r| write_case(r, 40), writer),

@@ -32,13 +32,7 @@ pub fn compare_read(random: &mut Random, bytes: &[u8], rooms: [usize; 3]) -> Res
     let mut lengths: Lent<u8> = Lent::of_length(random, rooms[1]);
     let mut weights: Lent<u16> = Lent::of_length(random, rooms[2]);
     let mut count: Lent<usize> = Lent::of_length(random, 1);
-    let number = calls::read(
-        job.list(),
-        places.list(),
-        lengths.list(),
-        weights.list(),
-        &mut count.list()[0],
-    );
+    let number = calls::read(job.list(), places.list(), lengths.list(), weights.list(), &mut count.list()[0]);
     ensure(job.unchanged(), "the job was changed")?;
     match decode(bytes, *rooms.iter().min().unwrap()) {
         Err(refusal) => {
@@ -62,13 +56,7 @@ pub fn compare_write(random: &mut Random, strip: &Strip, room: usize) -> Result<
     let mut marks = LentMarks::of(random, strip);
     let mut job: Lent<u8> = Lent::of_length(random, room);
     let mut length: Lent<usize> = Lent::of_length(random, 1);
-    let number = calls::write(
-        marks.places.list(),
-        marks.lengths.list(),
-        marks.weights.list(),
-        job.list(),
-        &mut length.list()[0],
-    );
+    let number = calls::write(marks.places.list(), marks.lengths.list(), marks.weights.list(), job.list(), &mut length.list()[0]);
     marks.unchanged()?;
     let entry = entry_number(strip, 4_000);
     let bytes = if entry == 0 { Job::of(strip).bytes() } else { vec![] };

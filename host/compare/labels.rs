@@ -29,8 +29,6 @@ pub fn overlap_free(strip: &Strip, positions: &[u8]) -> bool {
     let label_of = |i: usize| label(strip.places[i], strip.lengths[i], positions[i]);
     let near = |i: usize, j: usize| (strip.places[j] as i32) - (strip.places[i] as i32) < 480;
     (0..positions.len()).filter(|i| positions[*i] != 0).all(|i| {
-        (i + 1..positions.len())
-            .take_while(|j| near(i, *j))
-            .all(|j| positions[j] == 0 || !overlap(label_of(i), label_of(j)))
+        (i + 1..positions.len()).take_while(|j| near(i, *j)).all(|j| positions[j] == 0 || !overlap(label_of(i), label_of(j)))
     })
 }

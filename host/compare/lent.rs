@@ -75,5 +75,9 @@ impl<T: Element> Lent<T> {
 
 // Says what is wrong unless the condition holds.
 pub fn ensure(holds: bool, what: &str) -> Result<(), String> {
-    if holds { Ok(()) } else { Err(what.to_string()) }
+    if holds {
+        Ok(())
+    } else {
+        Err(what.to_string())
+    }
 }

@@ -129,9 +129,6 @@ impl LentMarks {
     }
 
     pub fn unchanged(&self) -> Result<(), String> {
-        ensure(
-            self.places.unchanged() && self.lengths.unchanged() && self.weights.unchanged(),
-            "a mark list was changed",
-        )
+        ensure(self.places.unchanged() && self.lengths.unchanged() && self.weights.unchanged(), "a mark list was changed")
     }
 }

@@ -85,11 +85,7 @@ fn placing(strip: &Strip, sides: &Lent<u8>, edges: &Lent<i16>) -> Result<(), Str
     let expected = leftmost(strip, &chosen).ok_or("a label beyond its mark")?;
     ensure(edges.written(&expected), "edges")?;
     let labels: Vec<Label> = (0..marks)
-        .map(|i| Label {
-            above: chosen[i] == 0,
-            left: expected[i] as i32,
-            right: expected[i] as i32 + strip.lengths[i] as i32,
-        })
+        .map(|i| Label { above: chosen[i] == 0, left: expected[i] as i32, right: expected[i] as i32 + strip.lengths[i] as i32 })
         .collect();
     let apart = |i: usize| (0..i).all(|j| !overlap(labels[i], labels[j]));
     ensure((0..marks).all(apart), "labels overlap")
@@ -100,14 +96,8 @@ pub fn compare(random: &mut Random, call: &Call, fits: fn(&Strip) -> bool) -> Re
     let mut sides: Lent<u8> = Lent::of_length(random, call.answers[0]);
     let mut edges: Lent<i16> = Lent::of_length(random, call.answers[1]);
     let mut work: Lent<u16> = Lent::of_length(random, call.work);
-    let number = calls::slide(
-        marks.places.list(),
-        marks.lengths.list(),
-        marks.weights.list(),
-        sides.list(),
-        edges.list(),
-        work.list(),
-    );
+    let number =
+        calls::slide(marks.places.list(), marks.lengths.list(), marks.weights.list(), sides.list(), edges.list(), work.list());
     marks.unchanged()?;
     let entry = pass_number(call, &LIMITS);
     if entry != 0 {

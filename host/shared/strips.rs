@@ -47,7 +47,11 @@ pub fn any_strip(random: &mut Random, marks: usize, shape: Shape) -> Strip {
 // The longest label that a mark at `place` can have on a side that reaches to `reach`, 0 for none.
 fn room(place: i32, reach: i32, right: bool, longest: i32) -> i32 {
     if right {
-        if reach <= place { longest } else { 0 }
+        if reach <= place {
+            longest
+        } else {
+            0
+        }
     } else {
         (place - reach).clamp(0, longest)
     }

@@ -79,5 +79,9 @@ pub fn full(places: &[i16], lengths: &[u8], weights: &[u16], positions: &mut [u8
         walk(places, lengths, work, positions);
     }
     work[..WORK].fill(0);
-    if fits { 0 } else { 11 }
+    if fits {
+        0
+    } else {
+        11
+    }
 }

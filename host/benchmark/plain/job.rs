@@ -52,7 +52,11 @@ fn check(job: &[u8], count: usize, first: i32) -> Result<(), u8> {
         let mark = record(job, at, i == 0, place)?;
         (at, place) = (mark.next, mark.place);
     }
-    if at < job.len() { Err(5) } else { Ok(()) }
+    if at < job.len() {
+        Err(5)
+    } else {
+        Ok(())
+    }
 }
 
 fn read_marks(job: &[u8], places: &mut [i16], lengths: &mut [u8], weights: &mut [u16]) -> Result<usize, u8> {
@@ -83,13 +87,16 @@ pub fn read(job: &[u8], places: &mut [i16], lengths: &mut [u8], weights: &mut [u
 }
 
 fn step_to(places: &[i16], i: usize) -> u16 {
-    if i == 0 { 1 } else { (places[i] as i32 - places[i - 1] as i32) as u16 }
+    if i == 0 {
+        1
+    } else {
+        (places[i] as i32 - places[i - 1] as i32) as u16
+    }
 }
 
 fn job_length(places: &[i16], lengths: &[u8], weights: &[u16]) -> usize {
-    let record = |i: usize| {
-        1 + 2 * (step_to(places, i) != 1) as usize + (lengths[i] != 8) as usize + 2 * (weights[i] != 1) as usize
-    };
+    let record =
+        |i: usize| 1 + 2 * (step_to(places, i) != 1) as usize + (lengths[i] != 8) as usize + 2 * (weights[i] != 1) as usize;
     4 + (0..places.len()).map(record).sum::<usize>()
 }
 

@@ -15,12 +15,22 @@ pub fn check_marks(places: &[i16], lengths: &[u8], weights: &[u16], most: usize)
         && places.windows(2).all(|pair| pair[0] < pair[1])
         && lengths.iter().all(|length| (1..=240).contains(length))
         && weights.iter().all(|weight| (1..=1_000).contains(weight));
-    if good { 0 } else { 8 }
+    if good {
+        0
+    } else {
+        8
+    }
 }
 
 // The checks of a pass: the lists, then the shortest answer list, then the work area.
 pub fn check_pass(
-    places: &[i16], lengths: &[u8], weights: &[u16], most: usize, shortest: usize, named: usize, lent: usize,
+    places: &[i16],
+    lengths: &[u8],
+    weights: &[u16],
+    most: usize,
+    shortest: usize,
+    named: usize,
+    lent: usize,
 ) -> u8 {
     match check_marks(places, lengths, weights, most) {
         0 if shortest < places.len() => 9,

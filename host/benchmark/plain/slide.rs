@@ -49,9 +49,7 @@ fn walk(places: &[i16], lengths: &[u8], work: &[u16], sides: &mut [u8], edges: &
 }
 
 #[inline(never)]
-pub fn slide(
-    places: &[i16], lengths: &[u8], weights: &[u16], sides: &mut [u8], edges: &mut [i16], work: &mut [u16],
-) -> u8 {
+pub fn slide(places: &[i16], lengths: &[u8], weights: &[u16], sides: &mut [u8], edges: &mut [i16], work: &mut [u16]) -> u8 {
     let shortest = sides.len().min(edges.len());
     let number = super::check_pass(places, lengths, weights, 60, shortest, WORK, work.len());
     if number != 0 {
@@ -63,5 +61,9 @@ pub fn slide(
         walk(places, lengths, work, sides, edges);
     }
     work[..WORK].fill(0);
-    if fits { 0 } else { 11 }
+    if fits {
+        0
+    } else {
+        11
+    }
 }
