@@ -14,7 +14,7 @@ mod timing;
 use lists::Lists;
 use random::Random;
 use strips::{any_strip, fitting_strip, Shape, Strip};
-use timing::row;
+use timing::{growth, row};
 
 const SHORT: Shape = Shape { gap: 14, length: 20 };
 const LONG: Shape = Shape { gap: 90, length: 240 };
@@ -112,5 +112,5 @@ fn main() {
     for row in &rows {
         println!("| {} | {:.1} | {:.1} | {:.2} |", row.name, row.exported, row.plain, row.exported / row.plain);
     }
-    println!("\nfull from 2,000 to 4,000 marks: {:.2} times the time", rows[1].exported / rows[0].exported);
+    println!("\nfull from 2,000 to 4,000 marks: {:.2} times the time", growth(full, &half, &whole));
 }

@@ -44,6 +44,10 @@ struct Side<'a> {
 }
 
 impl Side<'_> {
+    fn new<'a>(run: Run, strips: &'a [Strip], jobs: &'a [Vec<u8>]) -> Side<'a> {
+        Side { run, strips, jobs, lists: strips.iter().map(Lists::of).collect(), times: Vec::new() }
+    }
+
     // One round; microseconds of one call, as the mean over the strips.
     fn round(&mut self) {
         let start = nanoseconds();
@@ -59,15 +63,26 @@ impl Side<'_> {
     }
 }
 
+fn in_turn(one: &mut Side, other: &mut Side) {
+    for _ in 0..ROUNDS {
+        one.round();
+        other.round();
+    }
+}
+
 // Both sides on the same strips, which must be given the number and the same answers.
 pub fn row(name: &'static str, strips: &[Strip], jobs: &[Vec<u8>], number: u8, exported: Run, plain: Run) -> Row {
-    let side = |run: Run| Side { run, strips, jobs, lists: strips.iter().map(Lists::of).collect(), times: Vec::new() };
-    let (mut ours, mut theirs) = (side(exported), side(plain));
-    for _ in 0..ROUNDS {
-        ours.round();
-        theirs.round();
-    }
+    let (mut ours, mut theirs) = (Side::new(exported, strips, jobs), Side::new(plain, strips, jobs));
+    in_turn(&mut ours, &mut theirs);
     assert!(ours.lists.iter().all(|lists| lists.number == number), "{name}: another number than {number}");
     assert!(ours.lists == theirs.lists, "{name}: plain Rust gives another answer");
     Row { name, exported: ours.median(), plain: theirs.median() }
+}
+
+// How many times as long a call takes on the second set of strips as on the first.
+pub fn growth(run: Run, strips: &[Strip], more: &[Strip]) -> f64 {
+    let jobs = vec![Vec::new(); strips.len().max(more.len())];
+    let (mut less, mut more) = (Side::new(run, strips, &jobs), Side::new(run, more, &jobs));
+    in_turn(&mut less, &mut more);
+    more.median() / less.median()
 }
