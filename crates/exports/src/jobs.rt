@@ -1,0 +1,39 @@
+// The job reader and the job writer for a C host.
+ghost use Prim.Native.Nat.{min};
+ghost use lib.ListN.{length};
+ghost use Rattle.job.specs.Decode.{decode};
+ghost use Rattle.job.specs.Encode.{jobFor};
+ghost use Rattle.job.specs.Calls.{ReadCall, WriteCall};
+
+// The marks of a job in the three lists; 1 to 5 or 9 if the job or a list is refused. `count` is set at every return, to 0 at a
+// refusal.
+#[no_mangle]
+pub extern "C" fn strip_read(
+    job: &[u8],
+    places: &mut [i16],
+    lengths: &mut [u8],
+    weights: &mut [u16],
+    count: &mut usize,
+) -> u8
+    ensures { λ r. ⌜ ReadCall (decode (min (length (now (places .entry))) (min (length (now (lengths .entry))) (length (now (weights .entry))))) (now (job .entry))) (now (places .entry)) (now (lengths .entry)) (now (weights .entry)) (record { number = r; count = now (count .exit) }) (now (places .exit)) (now (lengths .exit)) (now (weights .exit)) ⌝ }
+{
+    let answer = job::reader::read(job, places, lengths, weights);
+    *count = answer.count;
+    answer.number
+}
+
+// The job of the three lists in `job`; 6 to 9 if a check is not passed. `length` is set at every return, to 0 at a refusal.
+#[no_mangle]
+pub extern "C" fn strip_write(
+    places: &[i16],
+    lengths: &[u8],
+    weights: &[u16],
+    job: &mut [u8],
+    length: &mut usize,
+) -> u8
+    ensures { λ r. ⌜ WriteCall (jobFor (lib.ListN.length (now (job .entry))) (now (places .entry)) (now (lengths .entry)) (now (weights .entry))) (now (job .entry)) (record { number = r; length = now (length .exit) }) (now (job .exit)) ⌝ }
+{
+    let answer = job::writer::write(places, lengths, weights, job);
+    *length = answer.length;
+    answer.number
+}

@@ -1,0 +1,88 @@
+// Medians of many rounds, the two sides in turn. A round goes once through a set of strips, so that no branch predictor learns one
+// strip by heart. Time is the processor time of this thread, so that other work on the machine does not count.
+use crate::lists::Lists;
+use crate::strips::Strip;
+
+const ROUNDS: usize = 201;
+
+// The processor clock of this thread, by the C library that the standard library links.
+#[repr(C)]
+struct Timespec {
+    seconds: i64,
+    nanoseconds: i64,
+}
+
+const CLOCK_THREAD_CPUTIME_ID: i32 = 3;
+
+extern "C" {
+    fn clock_gettime(clock: i32, time: *mut Timespec) -> i32;
+}
+
+fn nanoseconds() -> f64 {
+    let mut time = Timespec { seconds: 0, nanoseconds: 0 };
+    let status = unsafe { clock_gettime(CLOCK_THREAD_CPUTIME_ID, &mut time) };
+    assert_eq!(status, 0);
+    time.seconds as f64 * 1e9 + time.nanoseconds as f64
+}
+
+pub struct Row {
+    pub name: &'static str,
+    pub exported: f64,
+    pub plain: f64,
+}
+
+// A call on a strip and its job, with what it is lent.
+type Run = fn(&Strip, &[u8], &mut Lists);
+
+// One side: its lists for each strip, warm after the first round.
+struct Side<'a> {
+    run: Run,
+    strips: &'a [Strip],
+    jobs: &'a [Vec<u8>],
+    lists: Vec<Lists>,
+    times: Vec<f64>,
+}
+
+impl Side<'_> {
+    fn new<'a>(run: Run, strips: &'a [Strip], jobs: &'a [Vec<u8>]) -> Side<'a> {
+        Side { run, strips, jobs, lists: strips.iter().map(Lists::of).collect(), times: Vec::new() }
+    }
+
+    // One round; microseconds of one call, as the mean over the strips.
+    fn round(&mut self) {
+        let start = nanoseconds();
+        for (i, lists) in self.lists.iter_mut().enumerate() {
+            (self.run)(&self.strips[i], &self.jobs[i], lists);
+        }
+        self.times.push((nanoseconds() - start) / self.strips.len() as f64 / 1_000.0);
+    }
+
+    fn median(&mut self) -> f64 {
+        self.times.sort_by(f64::total_cmp);
+        self.times[self.times.len() / 2]
+    }
+}
+
+fn in_turn(one: &mut Side, other: &mut Side) {
+    for _ in 0..ROUNDS {
+        one.round();
+        other.round();
+    }
+}
+
+// Both sides on the same strips, which must be given the number and the same answers.
+pub fn row(name: &'static str, strips: &[Strip], jobs: &[Vec<u8>], number: u8, exported: Run, plain: Run) -> Row {
+    let (mut ours, mut theirs) = (Side::new(exported, strips, jobs), Side::new(plain, strips, jobs));
+    in_turn(&mut ours, &mut theirs);
+    assert!(ours.lists.iter().all(|lists| lists.number == number), "{name}: another number than {number}");
+    assert!(ours.lists == theirs.lists, "{name}: plain Rust gives another answer");
+    Row { name, exported: ours.median(), plain: theirs.median() }
+}
+
+// How many times as long a call takes on the second set of strips as on the first.
+pub fn growth(run: Run, strips: &[Strip], more: &[Strip]) -> f64 {
+    let jobs = vec![Vec::new(); strips.len().max(more.len())];
+    let (mut less, mut more) = (Side::new(run, strips, &jobs), Side::new(run, more, &jobs));
+    in_turn(&mut less, &mut more);
+    more.median() / less.median()
+}

@@ -1,0 +1,190 @@
+// The groups of strips and jobs. Each must meet every number that it names, so that no group passes by trying nothing.
+use crate::codec::Job;
+use crate::marks::{damage_strip, some_call, Call, Limits};
+use crate::near::some_strip;
+use crate::random::Random;
+use crate::strips::{any_strip, fitting_strip, Shape, Strip};
+use crate::{best, full, job, slide};
+use std::fmt::Debug;
+
+// Runs one group: `make` gives a case, `compare` the number that both sides agree on or what differs.
+fn group<C: Debug>(
+    name: &str,
+    seed: u64,
+    cases: usize,
+    numbers: &[u8],
+    make: impl Fn(&mut Random) -> C,
+    compare: impl Fn(&mut Random, &C) -> Result<u8, String>,
+) -> usize {
+    let mut random = Random::new(seed);
+    let mut seen = [0; 12];
+    for _ in 0..cases {
+        let case = make(&mut random);
+        match compare(&mut random, &case) {
+            Ok(number) => seen[number as usize] += 1,
+            Err(what) => {
+                println!("{name}: {what}\n{case:?}");
+                std::process::exit(1);
+            }
+        }
+    }
+    let counts: Vec<String> = numbers.iter().map(|n| format!("{n}: {}", seen[*n as usize])).collect();
+    println!("{name}: {cases} ({})", counts.join(", "));
+    if numbers.iter().any(|n| seen[*n as usize] == 0) {
+        println!("{name}: a number of the list was not met");
+        std::process::exit(1);
+    }
+    cases
+}
+
+// Up to so many marks, in shapes where some strips fit and some do not; half of the calls damaged.
+fn small_call(random: &mut Random, most: usize, limits: &Limits) -> Call {
+    let shape = Shape { gap: random.between(1, 12), length: [4, 12, 40, 240][random.below(4)] };
+    let marks = random.below(most + 1);
+    let strip = some_strip(random, marks, shape);
+    let damaged = random.once_in(2);
+    some_call(random, strip, limits, damaged)
+}
+
+// Up to the most marks that a pass takes, often exactly so many, and sometimes one more.
+fn large_call(random: &mut Random, limits: &Limits) -> Call {
+    let most = limits.marks;
+    let marks = [random.below(most + 1), most, most - random.below(9), most + random.below(2)][random.below(4)];
+    let dense = most > 1_000;
+    let shape = if dense {
+        Shape { gap: random.between(4, 14), length: random.between(4, 30) }
+    } else {
+        Shape { gap: random.between(2, 60), length: [10, 40, 120, 240][random.below(4)] }
+    };
+    let strip = match random.below(4) {
+        0 => any_strip(random, marks, shape),
+        1 | 2 => fitting_strip(random, marks, shape),
+        _ => some_strip(random, marks, shape),
+    };
+    let damaged = random.once_in(4);
+    some_call(random, strip, limits, damaged)
+}
+
+// Up to 6 marks close together, often with labels all of one length: few enough to try every part of a dot.
+fn crowded_call(random: &mut Random, limits: &Limits) -> Call {
+    let shape = Shape { gap: [1, 1, 2][random.below(3)], length: random.between(2, 6) };
+    let marks = random.below(7);
+    let mut strip = any_strip(random, marks, shape);
+    if random.once_in(2) {
+        strip.lengths.fill(shape.length as u8);
+    }
+    some_call(random, strip, limits, false)
+}
+
+#[derive(Debug)]
+struct ReadCase {
+    bytes: Vec<u8>,
+    rooms: [usize; 3],
+}
+
+fn read_case(random: &mut Random, most: usize) -> ReadCase {
+    let shape = Shape { gap: [1, 2, 9, 1_000, 60_000][random.below(5)], length: [8, 9, 240][random.below(3)] };
+    let marks = [random.below(most + 1), random.below(most + 1), most][random.below(3)];
+    let strip = any_strip(random, marks, shape);
+    let bytes = job::some_job(random, &strip);
+    let mut rooms = [0; 3].map(|_| marks + random.below(5));
+    if random.once_in(12) {
+        rooms[random.below(3)] = marks.saturating_sub(random.between(1, 3) as usize);
+    }
+    ReadCase { bytes, rooms }
+}
+
+#[derive(Debug)]
+struct WriteCase {
+    strip: Strip,
+    room: usize,
+}
+
+fn write_case(random: &mut Random, most: usize) -> WriteCase {
+    let shape = Shape { gap: [1, 2, 9, 1_000, 60_000][random.below(5)], length: [8, 9, 240][random.below(3)] };
+    let marks = [random.below(most + 1), most, 4_000 + random.below(2)][if random.once_in(200) { 2 } else { random.below(2) }];
+    let mut strip = any_strip(random, marks, shape);
+    let length = Job::of(&strip).bytes().len();
+    if random.once_in(2) {
+        damage_strip(random, &mut strip);
+    }
+    let room = [length, length, length + random.below(20), length - 1, random.below(length)][random.below(5)];
+    WriteCase { strip, room }
+}
+
+pub fn run_all() -> usize {
+    let reader = |random: &mut Random, case: &ReadCase| job::compare_read(random, &case.bytes, case.rooms);
+    let writer = |random: &mut Random, case: &WriteCase| job::compare_write(random, &case.strip, case.room);
+    [
+        group(
+            "full, to 9 marks, plain search",
+            1,
+            30_000,
+            &[0, 6, 8, 9, 10, 11],
+            |r| small_call(r, 9, &full::LIMITS),
+            |r, c| full::compare(r, c, full::by_plain_search),
+        ),
+        group(
+            "full, to 9 marks, dead ends kept",
+            2,
+            10_000,
+            &[0, 6, 8, 9, 10, 11],
+            |r| small_call(r, 9, &full::LIMITS),
+            |r, c| full::compare(r, c, full::by_dead_ends),
+        ),
+        group(
+            "full, to 4,000 marks, dead ends kept",
+            3,
+            3_000,
+            &[0, 6, 7, 8, 9, 10, 11],
+            |r| large_call(r, &full::LIMITS),
+            |r, c| full::compare(r, c, full::by_dead_ends),
+        ),
+        group(
+            "slide, to 6 marks, parts of a dot",
+            4,
+            3_000,
+            &[0, 11],
+            |r| crowded_call(r, &slide::LIMITS),
+            |r, c| slide::compare(r, c, slide::by_parts_of_a_dot),
+        ),
+        group(
+            "slide, to 10 marks, all sides",
+            5,
+            20_000,
+            &[0, 6, 8, 9, 10, 11],
+            |r| small_call(r, 10, &slide::LIMITS),
+            |r, c| slide::compare(r, c, slide::by_all_sides),
+        ),
+        group(
+            "slide, to 60 marks, all reaches",
+            6,
+            4_000,
+            &[0, 6, 7, 8, 9, 10, 11],
+            |r| large_call(r, &slide::LIMITS),
+            |r, c| slide::compare(r, c, slide::by_reaches),
+        ),
+        group(
+            "best, to 6 marks, plain search",
+            7,
+            20_000,
+            &[0, 6, 8, 9, 10],
+            |r| small_call(r, 6, &best::LIMITS),
+            |r, c| best::compare(r, c, best::by_plain_search),
+        ),
+        group(
+            "best, to 60 marks, all reaches",
+            8,
+            1_500,
+            &[0, 6, 7, 8, 9, 10],
+            |r| large_call(r, &best::LIMITS),
+            |r, c| best::compare(r, c, best::by_reaches),
+        ),
+        group("read, to 40 marks", 9, 30_000, &[0, 1, 2, 3, 4, 5, 9], |r| read_case(r, 40), reader),
+        group("read, to 4,000 marks", 10, 1_000, &[0, 1, 2, 3, 4, 5, 9], |r| read_case(r, 4_000), reader),
+        group("write, to 40 marks", 11, 15_000, &[0, 6, 7, 8, 9], |r| write_case(r, 40), writer),
+        group("write, to 4,000 marks", 12, 2_000, &[0, 6, 7, 8, 9], |r| write_case(r, 4_000), writer),
+    ]
+    .iter()
+    .sum()
+}

@@ -1,0 +1,134 @@
+// The three mark lists as they are lent to a call, with the checks 6 to 10 and the damage that tries them.
+use crate::lent::{ensure, Lent};
+use crate::random::Random;
+use crate::strips::Strip;
+
+// What a pass is called with: the mark lists, the lengths of its answer lists and of its work area.
+#[derive(Clone, Debug)]
+pub struct Call {
+    pub strip: Strip,
+    pub answers: Vec<usize>,
+    pub work: usize,
+}
+
+// What document 01 names for a pass.
+pub struct Limits {
+    pub marks: usize,
+    pub answers: usize,
+    pub work: usize,
+}
+
+fn in_range(strip: &Strip) -> bool {
+    strip.places.iter().all(|z| (-30_000..=30_000).contains(z))
+        && strip.lengths.iter().all(|l| (1..=240).contains(l))
+        && strip.weights.iter().all(|w| (1..=1_000).contains(w))
+        && strip.places.windows(2).all(|pair| pair[0] < pair[1])
+}
+
+// The number of the first check on entry, 6 to 8, that is not passed.
+pub fn entry_number(strip: &Strip, most: usize) -> u8 {
+    let marks = strip.places.len();
+    if strip.lengths.len() != marks || strip.weights.len() != marks {
+        6
+    } else if marks > most {
+        7
+    } else if !in_range(strip) {
+        8
+    } else {
+        0
+    }
+}
+
+pub fn pass_number(call: &Call, limits: &Limits) -> u8 {
+    let entry = entry_number(&call.strip, limits.marks);
+    if entry != 0 {
+        entry
+    } else if call.answers.iter().any(|length| *length < call.strip.places.len()) {
+        9
+    } else if call.work < limits.work {
+        10
+    } else {
+        0
+    }
+}
+
+fn lengthen_or_shorten<T: Copy>(random: &mut Random, list: &mut Vec<T>, value: T) {
+    if random.once_in(2) {
+        list.push(value);
+    } else {
+        list.pop();
+    }
+}
+
+fn unequal(random: &mut Random, strip: &mut Strip) {
+    match random.below(3) {
+        0 => lengthen_or_shorten(random, &mut strip.places, 30_000),
+        1 => lengthen_or_shorten(random, &mut strip.lengths, 8),
+        _ => lengthen_or_shorten(random, &mut strip.weights, 1),
+    }
+}
+
+// One value out of range, or one place not above the one before.
+fn bad_value(random: &mut Random, strip: &mut Strip) {
+    let marks = strip.places.len().min(strip.lengths.len()).min(strip.weights.len());
+    if marks == 0 {
+        return;
+    }
+    let at = random.below(marks);
+    match random.below(5) {
+        0 => strip.places[at] = [-30_001, 30_001, i16::MIN, i16::MAX][random.below(4)],
+        1 => strip.lengths[at] = [0, 241, 255][random.below(3)],
+        2 => strip.weights[at] = [0, 1_001, u16::MAX][random.below(3)],
+        3 if at > 0 => strip.places[at] = strip.places[at - 1],
+        _ => strip.places.swap(0, at),
+    }
+}
+
+// Breaks one check after another with the given chance, several at once too.
+pub fn damage_strip(random: &mut Random, strip: &mut Strip) {
+    if random.once_in(10) {
+        unequal(random, strip);
+    }
+    if random.once_in(8) {
+        bad_value(random, strip);
+    }
+}
+
+// A call on a strip with answer lists and a work area that are long enough, then damaged.
+pub fn some_call(random: &mut Random, strip: Strip, limits: &Limits, damaged: bool) -> Call {
+    let marks = strip.places.len();
+    let answers = (0..limits.answers).map(|_| marks + random.below(9)).collect();
+    let work = limits.work + random.below(40);
+    let mut call = Call { strip, answers, work };
+    if damaged {
+        damage_strip(random, &mut call.strip);
+        if random.once_in(8) && marks > 0 {
+            let at = random.below(limits.answers);
+            call.answers[at] = [marks - 1, random.below(marks)][random.below(2)];
+        }
+        if random.once_in(10) {
+            call.work = [limits.work - 1, 0, random.below(limits.work)][random.below(3)];
+        }
+    }
+    call
+}
+
+pub struct LentMarks {
+    pub places: Lent<i16>,
+    pub lengths: Lent<u8>,
+    pub weights: Lent<u16>,
+}
+
+impl LentMarks {
+    pub fn of(random: &mut Random, strip: &Strip) -> LentMarks {
+        LentMarks {
+            places: Lent::holding(random, &strip.places),
+            lengths: Lent::holding(random, &strip.lengths),
+            weights: Lent::holding(random, &strip.weights),
+        }
+    }
+
+    pub fn unchanged(&self) -> Result<(), String> {
+        ensure(self.places.unchanged() && self.lengths.unchanged() && self.weights.unchanged(), "a mark list was changed")
+    }
+}

@@ -1,0 +1,168 @@
+// The five calls of include/strip.h, on slices: a slice is a pointer and its count of elements, never null and never overlapping
+// another that is lent to the same call, so every use is within the header's rules.
+
+#[link(name = "exports", kind = "static")]
+extern "C" {
+    fn strip_full(
+        places: *const i16,
+        places_len: usize,
+        lengths: *const u8,
+        lengths_len: usize,
+        weights: *const u16,
+        weights_len: usize,
+        positions: *mut u8,
+        positions_len: usize,
+        work: *mut i16,
+        work_len: usize,
+    ) -> u8;
+    fn strip_slide(
+        places: *const i16,
+        places_len: usize,
+        lengths: *const u8,
+        lengths_len: usize,
+        weights: *const u16,
+        weights_len: usize,
+        sides: *mut u8,
+        sides_len: usize,
+        edges: *mut i16,
+        edges_len: usize,
+        work: *mut u16,
+        work_len: usize,
+    ) -> u8;
+    fn strip_best(
+        places: *const i16,
+        places_len: usize,
+        lengths: *const u8,
+        lengths_len: usize,
+        weights: *const u16,
+        weights_len: usize,
+        positions: *mut u8,
+        positions_len: usize,
+        left_out: *mut u16,
+        left_out_len: usize,
+        work: *mut u32,
+        work_len: usize,
+        sum: *mut u32,
+        count: *mut usize,
+    ) -> u8;
+    fn strip_read(
+        job: *const u8,
+        job_len: usize,
+        places: *mut i16,
+        places_len: usize,
+        lengths: *mut u8,
+        lengths_len: usize,
+        weights: *mut u16,
+        weights_len: usize,
+        count: *mut usize,
+    ) -> u8;
+    fn strip_write(
+        places: *const i16,
+        places_len: usize,
+        lengths: *const u8,
+        lengths_len: usize,
+        weights: *const u16,
+        weights_len: usize,
+        job: *mut u8,
+        job_len: usize,
+        length: *mut usize,
+    ) -> u8;
+}
+
+pub fn full(places: &[i16], lengths: &[u8], weights: &[u16], positions: &mut [u8], work: &mut [i16]) -> u8 {
+    unsafe {
+        strip_full(
+            places.as_ptr(),
+            places.len(),
+            lengths.as_ptr(),
+            lengths.len(),
+            weights.as_ptr(),
+            weights.len(),
+            positions.as_mut_ptr(),
+            positions.len(),
+            work.as_mut_ptr(),
+            work.len(),
+        )
+    }
+}
+
+pub fn slide(places: &[i16], lengths: &[u8], weights: &[u16], sides: &mut [u8], edges: &mut [i16], work: &mut [u16]) -> u8 {
+    unsafe {
+        strip_slide(
+            places.as_ptr(),
+            places.len(),
+            lengths.as_ptr(),
+            lengths.len(),
+            weights.as_ptr(),
+            weights.len(),
+            sides.as_mut_ptr(),
+            sides.len(),
+            edges.as_mut_ptr(),
+            edges.len(),
+            work.as_mut_ptr(),
+            work.len(),
+        )
+    }
+}
+
+pub fn best(
+    places: &[i16],
+    lengths: &[u8],
+    weights: &[u16],
+    positions: &mut [u8],
+    left_out: &mut [u16],
+    work: &mut [u32],
+    sum: &mut u32,
+    count: &mut usize,
+) -> u8 {
+    unsafe {
+        strip_best(
+            places.as_ptr(),
+            places.len(),
+            lengths.as_ptr(),
+            lengths.len(),
+            weights.as_ptr(),
+            weights.len(),
+            positions.as_mut_ptr(),
+            positions.len(),
+            left_out.as_mut_ptr(),
+            left_out.len(),
+            work.as_mut_ptr(),
+            work.len(),
+            sum,
+            count,
+        )
+    }
+}
+
+pub fn read(job: &[u8], places: &mut [i16], lengths: &mut [u8], weights: &mut [u16], count: &mut usize) -> u8 {
+    unsafe {
+        strip_read(
+            job.as_ptr(),
+            job.len(),
+            places.as_mut_ptr(),
+            places.len(),
+            lengths.as_mut_ptr(),
+            lengths.len(),
+            weights.as_mut_ptr(),
+            weights.len(),
+            count,
+        )
+    }
+}
+
+pub fn write(places: &[i16], lengths: &[u8], weights: &[u16], job: &mut [u8], length: &mut usize) -> u8 {
+    unsafe {
+        strip_write(
+            places.as_ptr(),
+            places.len(),
+            lengths.as_ptr(),
+            lengths.len(),
+            weights.as_ptr(),
+            weights.len(),
+            job.as_mut_ptr(),
+            job.len(),
+            length,
+        )
+    }
+}

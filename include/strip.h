@@ -1,0 +1,132 @@
+/*
+ * The strip labeller for C: marks on one line, a label for each above or below the line.
+ *
+ * A mark has a place and a length, in dots, and a weight. A strip is three lists of one length: places, lengths and weights, the
+ * places strictly rising. Marks are numbered from 1. Labels of one side overlap if they share more than an end point.
+ *
+ * Every list is a pointer and then its count of elements. What the caller owes, and no call can test:
+ *   - no pointer is NULL, also where the count is 0, and each is aligned for its element type;
+ *   - each pointer has at least its count of elements behind it, all of them initialised;
+ *   - no two of the buffers of one call overlap, out values included.
+ * Any contents of the buffers are fine, and any counts: each call tests what it needs and refuses the rest by number.
+ *
+ * Every call returns 0 or the number of the first check that is not passed, and sets its out values at every return: to 0 at every
+ * refusal. Except for the work area at refusal 11, a refusal changes no list. Elements that a call is not said to write are
+ * unchanged. No call keeps a pointer, allocates memory or holds state of its own, so calls on separate buffers may run at once.
+ */
+#ifndef STRIP_H
+#define STRIP_H
+
+#include <stddef.h>
+#include <stdint.h>
+
+#ifdef __cplusplus
+extern "C" {
+#endif
+
+/* What a call returns. */
+#define STRIP_ACCEPTED 0
+#define STRIP_BYTES_END 1       /* reader: the bytes end too early */
+#define STRIP_STRAY_BIT 2       /* reader: a bit of 3 to 7 stands in a map byte, or bit 0 in the first one */
+#define STRIP_ABSENT_VALUE 3    /* reader: a field holds the value it has if absent */
+#define STRIP_OUT_OF_RANGE 4    /* reader: a count, a place or a field is out of range */
+#define STRIP_BYTES_LEFT_OVER 5 /* reader: bytes follow the last record */
+#define STRIP_LISTS_UNEQUAL 6   /* passes, writer: mark lists of unequal length */
+#define STRIP_TOO_MANY_MARKS 7  /* passes, writer: more marks than the call takes */
+#define STRIP_BAD_MARK 8        /* passes, writer: a value out of range, or places not rising */
+#define STRIP_LIST_TOO_SHORT 9  /* all: a list to be filled is shorter than the count of marks, or the output than the job */
+#define STRIP_WORK_TOO_SHORT 10 /* passes: the work area is shorter than named below */
+#define STRIP_NO_PLACING 11     /* full, slide: not every mark can have a label */
+
+/* The ranges of a mark. */
+#define STRIP_PLACE_LEAST (-30000)
+#define STRIP_PLACE_MOST 30000
+#define STRIP_LENGTH_LEAST 1
+#define STRIP_LENGTH_MOST 240
+#define STRIP_WEIGHT_LEAST 1
+#define STRIP_WEIGHT_MOST 1000
+
+/* The most marks that a call takes, and the most bytes that a job of so many marks has. */
+#define STRIP_MARKS_FULL 4000
+#define STRIP_MARKS_SLIDE 60
+#define STRIP_MARKS_BEST 60
+#define STRIP_MARKS_JOB 4000
+#define STRIP_JOB_MOST 24002
+
+/* The named part of each work area, in elements. The sizes do not depend on the strip. */
+#define STRIP_WORK_FULL 20000
+#define STRIP_WORK_SLIDE 30000
+#define STRIP_WORK_BEST 15000
+
+/* The positions of a label, and the sides of a sliding one. */
+#define STRIP_UNLABELLED 0
+#define STRIP_ABOVE_RIGHT 1
+#define STRIP_ABOVE_LEFT 2
+#define STRIP_BELOW_LEFT 3
+#define STRIP_BELOW_RIGHT 4
+#define STRIP_SIDE_ABOVE 0
+#define STRIP_SIDE_BELOW 1
+
+/*
+ * The full pass: a label for every mark, a corner of it on the mark.
+ *
+ * 0: positions holds in its first places_len elements one of the positions 1 to 4 for each mark, no two labels overlapping. Of all
+ * such lists it is the first, compared from mark 1 on, with the positions ranked 2, 3, 1, 4.
+ * 11: there is no such list; positions is unchanged.
+ * At 0 and at 11 the first STRIP_WORK_FULL elements of work are 0 and the rest of it is unchanged. 6 to 10: nothing is changed.
+ */
+uint8_t strip_full(const int16_t *places, size_t places_len, const uint8_t *lengths, size_t lengths_len,
+                   const uint16_t *weights, size_t weights_len, uint8_t *positions, size_t positions_len,
+                   int16_t *work, size_t work_len);
+
+/*
+ * The slide pass: a label for every mark, its left edge anywhere from place - length to place.
+ *
+ * 0: sides and edges hold in their first places_len elements the side (0 above, 1 below) and the left edge of each mark's label, no
+ * two labels overlapping. Given the sides, every label is as far left as it goes, taking marks from left to right; which sides is
+ * open.
+ * 11: there are no such lists, also at fractions of a dot; sides and edges are unchanged.
+ * At 0 and at 11 the first STRIP_WORK_SLIDE elements of work are 0 and the rest of it is unchanged. 6 to 10: nothing is changed.
+ */
+uint8_t strip_slide(const int16_t *places, size_t places_len, const uint8_t *lengths, size_t lengths_len,
+                    const uint16_t *weights, size_t weights_len, uint8_t *sides, size_t sides_len, int16_t *edges,
+                    size_t edges_len, uint16_t *work, size_t work_len);
+
+/*
+ * The best pass: labels at the four positions for marks that may go without one, with the greatest sum of weights.
+ *
+ * 0: positions holds in its first places_len elements a position for each mark, 0 for none, no two labels overlapping; *sum is the
+ * sum of the weights of the labelled marks, and no such list has a greater one. The first *count elements of left_out are the
+ * numbers of the marks at 0, each once. Which list among those of equal sums, and the order of the numbers, are open. The first
+ * STRIP_WORK_BEST elements of work are 0 and the rest of it is unchanged.
+ * 6 to 10: *sum and *count are 0, nothing else is changed. 9 compares both answer lists with the count of marks.
+ */
+uint8_t strip_best(const int16_t *places, size_t places_len, const uint8_t *lengths, size_t lengths_len,
+                   const uint16_t *weights, size_t weights_len, uint8_t *positions, size_t positions_len,
+                   uint16_t *left_out, size_t left_out_len, uint32_t *work, size_t work_len, uint32_t *sum,
+                   size_t *count);
+
+/*
+ * The job reader: the marks of a job.
+ *
+ * 0: *count is the count of marks, and the first *count elements of places, lengths and weights are theirs. The three lists may be
+ * longer than the count, and of different lengths.
+ * 1 to 5 and 9: *count is 0, nothing else is changed. 9 comes after the header and before any record.
+ */
+uint8_t strip_read(const uint8_t *job, size_t job_len, int16_t *places, size_t places_len, uint8_t *lengths,
+                   size_t lengths_len, uint16_t *weights, size_t weights_len, size_t *count);
+
+/*
+ * The job writer: the one job of a strip.
+ *
+ * 0: *length is the job's length in bytes, and the first *length elements of job are its bytes.
+ * 6 to 9: *length is 0, nothing else is changed. STRIP_JOB_MOST bytes of output are enough for every strip.
+ */
+uint8_t strip_write(const int16_t *places, size_t places_len, const uint8_t *lengths, size_t lengths_len,
+                    const uint16_t *weights, size_t weights_len, uint8_t *job, size_t job_len, size_t *length);
+
+#ifdef __cplusplus
+}
+#endif
+
+#endif
