@@ -3,7 +3,7 @@ use mathlib.Core.Path.{_≡_, refl, sym, _∙_, ap}
 use mathlib.Core.Bool.{cond}
 use mathlib.Core.List.{List}
 use mathlib.Core.Logic.{_⊎_, inl, inr, ⊎-elim}
-use Prim.Native.Nat.{ℕ, suc, _+_, _*_, _/_, _%_, _≤_, _<_, max}
+use Prim.Native.Nat.{ℕ, suc, _+_, _*_, _/_, _≤_, _<_, max}
 use native.Mathlib.Omega.{arith}
 use lib.Dec.{ltb}
 use lib.IntN.{ℤ}
@@ -37,6 +37,10 @@ module _ (g : ℕ) (zs : List ℤ) (ls ws : List ℕ) (k : ℕ) where
   behind-bound : (b x y : ℕ) → b ≤ cellOf x y → law (cond (ltb (cellOf x y) b) k (suc k)) x y ≡ law (suc k) x y
   behind-bound b x y h = rw (le-ltb (cellOf x y) b h) refl
 
+  -- the bound by another name
+  pub at-bound : (b d : ℕ) (table : List ℕ) → b ≡ d → Partly g zs ls ws k b table → Partly g zs ls ws k d table
+  at-bound b d table e partly = rw e at partly
+
   -- the bound moves past a cell that holds what it should, while the other cells stay
   move-bound : (b : ℕ) (table new : List ℕ) → Partly g zs ls ws k b table → ((e : ℕ) → (e ≡ b → ⊥) → getD new e 0 ≡ getD table e 0)
       → ((x y : ℕ) → x < 122 → y < 122 → cellOf x y ≡ b → getD new b 0 ≡ law k x y) → Partly g zs ls ws k (suc b) new
@@ -50,20 +54,29 @@ module _ (g : ℕ) (zs : List ℤ) (ls ws : List ℕ) (k : ℕ) where
         (apart-or-same (cellOf x y) b);
   }
 
-  -- a cell with a last label of mark k or later stays as it is
-  pub skip-cell : (b : ℕ) (table : List ℕ) → Partly g zs ls ws k b table → 2 * k + 2 ≤ b % 122 → Partly g zs ls ws k (suc b) table
-  skip-cell b table partly h =
-      move-bound b table table partly (λ e _. refl)
-      (λ x y hx hy e. ap (λ c. getD table c 0) (sym e) ∙ partly .cell x y hx hy ∙ behind-bound b x y (omega arith) ∙ same-worth g zs ls ws k x y (omega arith))
+  -- the cells of a row with a last label below of mark k or later stay as they are
+  pub skip-rest : (x b : ℕ) (table : List ℕ) → 2 * k + 2 ≤ b → b ≤ 122 → Partly g zs ls ws k (x * 122 + b) table → Partly g zs ls ws k (suc x * 122) table
+  skip-rest x b table h s partly = record {
+    cell = λ u v hu hv.
+        ⊎-elim
+        (λ l. partly .cell u v hu hv ∙ before-bound (x * 122 + b) u v l ∙ sym (before-bound (suc x * 122) u v (omega arith)))
+        (λ l.
+        ⊎-elim
+        (λ m. partly .cell u v hu hv ∙ behind-bound (x * 122 + b) u v l ∙ same-worth g zs ls ws k u v (omega arith) ∙ sym (before-bound (suc x * 122) u v m))
+        (λ m. partly .cell u v hu hv ∙ behind-bound (x * 122 + b) u v l ∙ sym (behind-bound (suc x * 122) u v m))
+        (lt-or-ge (cellOf u v) (suc x * 122)))
+        (lt-or-ge (cellOf u v) (x * 122 + b));
+  }
 
   -- another cell gets its value
-  pub set-cell : (b v : ℕ) (table : List ℕ) → Partly g zs ls ws k b table → b < length table → v ≡ law k (b / 122) (b % 122) → Partly g zs ls ws k (suc b) (set table b v)
-  set-cell b v table partly inside e =
-      move-bound b table (set table b v) partly (λ c n. getD-set-other table b c v 0 n)
-      (λ x y hx hy f.
-      let ex : b / 122 ≡ x = omega arith in
-      let ey : b % 122 ≡ y = omega arith in
-      getD-set-same table b v 0 inside ∙ e ∙ rw (ex, ey) refl)
+  pub set-cell : (x y v : ℕ) (table : List ℕ) → y < 122 → Partly g zs ls ws k (cellOf x y) table → cellOf x y < length table → v ≡ law k x y
+      → Partly g zs ls ws k (suc (cellOf x y)) (set table (cellOf x y) v)
+  set-cell x y v table small partly inside e =
+      move-bound (cellOf x y) table (set table (cellOf x y) v) partly (λ c n. getD-set-other table (cellOf x y) c v 0 n)
+      (λ s t hs ht f.
+      let ex : x ≡ s = omega arith in
+      let ey : y ≡ t = omega arith in
+      getD-set-same table (cellOf x y) v 0 inside ∙ e ∙ rw (ex, ey) refl)
 
   -- no cell is renewed yet; all are
   pub none-renewed : (table : List ℕ) → Filled g zs ls ws (suc k) table → Partly g zs ls ws k 0 table
@@ -96,20 +109,18 @@ law-light g j x y zs ls ws work s =
     worth-limit g (reachNamed g zs ls x) (reachNamed g zs ls y) (max j (max (x / 2) (y / 2))) zs ls ws (s .same-lengths) (s .same-weights) (s .few) (s .weights-good)
 
 -- what the program asks and gives at a cell
-module _ (g : ℕ) (zs : List ℤ) (ls ws work : List ℕ) (k b : ℕ) (strip : Strip zs ls ws work) (in-strip : k < length zs) (bounded : b < (2 * k + 2) * 122)
-    (narrow : b % 122 < 2 * k + 2) (partly : Partly g zs ls ws k b work) where
-  pub cell-beside : Beside zs k (b / 122) (b % 122)
+module _ (g : ℕ) (zs : List ℤ) (ls ws work : List ℕ) (k x y : ℕ) (strip : Strip zs ls ws work) (in-strip : k < length zs) (low : x < 2 * k + 2)
+    (narrow : y < 2 * k + 2) (partly : Partly g zs ls ws k (cellOf x y) work) where
+  pub cell-beside : Beside zs k x y
   cell-beside = record { in-strip = in-strip; above-before = omega arith; below-before = omega arith }
 
-  pub cells-light : Light work k (b / 122) (b % 122)
+  pub cells-light : Light work k x y
   cells-light = record {
     cell = λ p.
-        rw (partly .cell (aboveNamed k p (b / 122)) (belowNamed k p (b % 122)) (above-small k (b / 122) p (omega arith) (omega arith)) (below-small k (b % 122) p (omega arith) (omega arith)))
-        (law-light g _ (aboveNamed k p (b / 122)) (belowNamed k p (b % 122)) zs ls ws work strip);
+        rw (partly .cell (aboveNamed k p x) (belowNamed k p y) (above-small k x p (omega arith) (omega arith)) (below-small k y p (omega arith) (omega arith)))
+        (law-light g _ (aboveNamed k p x) (belowNamed k p y) zs ls ws work strip);
   }
 
-  pub cell-value : greatestOf (roomAt g zs ls ws k (b / 122) (b % 122)) (gainAt ws work k (b / 122) (b % 122)) everyPosition ≡ cellWorth g zs ls ws k (b / 122) (b % 122)
+  pub cell-value : greatestOf (roomAt g zs ls ws k x y) (gainAt ws work k x y) everyPosition ≡ cellWorth g zs ls ws k x y
   cell-value =
-      let e : b ≡ cellOf (b / 122) (b % 122) = omega arith in
-      renewed-worth g zs ls ws k (strip .same-lengths) (strip .same-weights) (strip .few) in-strip (b / 122) (b % 122) work
-      (rw e at partly) (omega arith) (omega arith)
+      renewed-worth g zs ls ws k (strip .same-lengths) (strip .same-weights) (strip .few) in-strip x y work partly (omega arith) (omega arith)

@@ -1,5 +1,5 @@
 // The table: for each pair of last labels, 122 names above and 122 below, the most that the marks after them can still earn.
-// At 60 marks 446,520 cells are visited and 295,240 of them renewed with five offers each: some 1.9 million steps.
+// At 60 marks cells are renewed 295,240 times, with five offers each: some 1.5 million steps.
 use crate::label;
 use crate::label::Position;
 use crate::memory;
@@ -95,35 +95,50 @@ fn most(
     best
 }
 
-// One cell for one mark more, if its last labels are of marks before mark k.
+// One cell for one mark more.
 fn renew_cell(
     places: &[i16],
     lengths: &[u8],
     weights: &[u16],
     work: &mut [u32],
     k: usize,
-    cell: usize,
+    above: usize,
+    below: usize,
 )
-    requires { ⌜ Strip (now places) (now lengths) (now weights) (now work) ⌝ ∗ ⌜ k < length (now places) ⌝ ∗ ⌜ cell < (2 * k + 2) * 122 ⌝ ∗ ⌜ Partly 0 (now places) (now lengths) (now weights) k cell (now work) ⌝ }
-    ensures { λ r. ⌜ Partly 0 (now (places .entry)) (now (lengths .entry)) (now (weights .entry)) k (suc cell) (now (work .exit)) ⌝ ∗ ⌜ drop 15000 (now (work .exit)) ≡ drop 15000 (now (work .entry)) ⌝ }
+    requires { ⌜ Strip (now places) (now lengths) (now weights) (now work) ⌝ ∗ ⌜ k < length (now places) ⌝ ∗ ⌜ (above < 2 * k + 2) × (below < 2 * k + 2) ⌝ ∗ ⌜ Partly 0 (now places) (now lengths) (now weights) k (above * 122 + below) (now work) ⌝ }
+    ensures { λ r. ⌜ Partly 0 (now (places .entry)) (now (lengths .entry)) (now (weights .entry)) k (suc (above * 122 + below)) (now (work .exit)) ⌝ ∗ ⌜ drop 15000 (now (work .exit)) ≡ drop 15000 (now (work .entry)) ⌝ }
 {
-    let above = cell / NAMES;
-    let below = cell % NAMES;
-    if 2 * k + 2 <= below {
-        return;
-    }
-    work[cell] = most(places, lengths, weights, work, k, above, below);
+    work[above * NAMES + below] = most(places, lengths, weights, work, k, above, below);
 }
 
-// The whole table for one mark more.
+// The row of one last label above, for one mark more: its cells with a last label below of mark k or later stay as they are.
+fn renew_row(
+    places: &[i16],
+    lengths: &[u8],
+    weights: &[u16],
+    work: &mut [u32],
+    k: usize,
+    above: usize,
+)
+    requires { ⌜ Strip (now places) (now lengths) (now weights) (now work) ⌝ ∗ ⌜ k < length (now places) ⌝ ∗ ⌜ above < 2 * k + 2 ⌝ ∗ ⌜ Partly 0 (now places) (now lengths) (now weights) k (above * 122) (now work) ⌝ }
+    ensures { λ r. ⌜ Partly 0 (now (places .entry)) (now (lengths .entry)) (now (weights .entry)) k (suc above * 122) (now (work .exit)) ⌝ ∗ ⌜ drop 15000 (now (work .exit)) ≡ drop 15000 (now (work .entry)) ⌝ }
+{
+    let mut below = 0;
+    while below < 2 * k + 2 {
+        renew_cell(places, lengths, weights, work, k, above, below);
+        below += 1;
+    }
+}
+
+// The whole table for one mark more: the rows of last labels above of marks before mark k.
 fn renew(places: &[i16], lengths: &[u8], weights: &[u16], work: &mut [u32], k: usize)
     requires { ⌜ Strip (now places) (now lengths) (now weights) (now work) ⌝ ∗ ⌜ k < length (now places) ⌝ ∗ ⌜ Filled 0 (now places) (now lengths) (now weights) (suc k) (now work) ⌝ }
     ensures { λ r. ⌜ Filled 0 (now (places .entry)) (now (lengths .entry)) (now (weights .entry)) k (now (work .exit)) ⌝ ∗ ⌜ drop 15000 (now (work .exit)) ≡ drop 15000 (now (work .entry)) ⌝ }
 {
-    let mut cell = 0;
-    while cell < (2 * k + 2) * NAMES {
-        renew_cell(places, lengths, weights, work, k, cell);
-        cell += 1;
+    let mut above = 0;
+    while above < 2 * k + 2 {
+        renew_row(places, lengths, weights, work, k, above);
+        above += 1;
     }
 }
 

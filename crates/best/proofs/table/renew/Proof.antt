@@ -1,20 +1,19 @@
--- `best::table::renew` meets its contract: the cells below `cell` count mark k, the others do not yet.
+-- `best::table::renew` meets its contract: the rows before `above` count mark k, the others do not yet.
 use mathlib.Core.Path.{_≡_, refl, _∙_}
 use Prim.Native.Nat.{_+_, _-_, _*_, _≤_}
 use native.Mathlib.Omega.{arith}
-use native.Mathlib.Numerals.{add-one}
 use lib.ListN.{length, drop}
 use Rattle.best.specs.inner.Table.{Partly}
 use Rattle.best.proofs.Cells.{strip-again}
-use Rattle.best.proofs.Renewal.{none-renewed, all-renewed}
+use Rattle.best.proofs.Renewal.{none-renewed, all-renewed, at-bound}
 use Rattle.best.proofs.table.renew.Statement.{statement}
 use Rattle.best.proofs.table.renew.Tie as tie
 
 abbrev Inv-loop : tie.InvT-loop
-Inv-loop places lengths weights work₀ k cell₀ work cell = (cell ≤ (2 * k + 2) * 122) × (length work ≡ length work₀) × Partly 0 places lengths weights k cell work × (drop 15000 work ≡ drop 15000 work₀)
+Inv-loop places lengths weights work₀ k above₀ work above = (above ≤ 2 * k + 2) × (length work ≡ length work₀) × Partly 0 places lengths weights k (above * 122) work × (drop 15000 work ≡ drop 15000 work₀)
 
 abbrev μ-loop : tie.MeasureT-loop
-μ-loop places lengths weights work₀ k cell₀ work cell = (2 * k + 2) * 122 - cell
+μ-loop places lengths weights work₀ k above₀ work above = 2 * k + 2 - above
 
 loop-holds : tie.Need-loop-holds Inv-loop μ-loop
 loop-holds c = (omega arith, refl, none-renewed 0 _ _ _ _ _ (c .before .before .before .pre .1 .1), refl)
@@ -25,17 +24,14 @@ mul-loop c = omega arith
 add-loop : tie.Need-add-loop Inv-loop μ-loop
 add-loop c = omega arith
 
-mul-loop-2 : tie.Need-mul-loop-2 Inv-loop μ-loop
-mul-loop-2 c = omega arith
-
-renew-cell-requires : tie.Need-renew-cell-requires Inv-loop μ-loop
-renew-cell-requires c κs =
+renew-row-requires : tie.Need-renew-row-requires Inv-loop μ-loop
+renew-row-requires c κs =
     let a = c .before .before .before .before .before .before in
     let h = c .before .before .loop .inv in
     (strip-again (a .args .work .now) (c .before .before .loop .work) (a .pre .0) (h .1), (a .pre .1 .0, (omega arith, h .2)))
 
-add-cell : tie.Need-add-cell Inv-loop μ-loop
-add-cell c = omega arith
+add-above : tie.Need-add-above Inv-loop μ-loop
+add-above c = omega arith
 
 loop-less : tie.Need-loop-less Inv-loop μ-loop
 loop-less c = omega arith
@@ -43,8 +39,8 @@ loop-less c = omega arith
 loop-again : tie.Need-loop-again Inv-loop μ-loop
 loop-again c =
     let h = c .before .before .before .before .before .loop .inv in
-    let last = c .before .before .renew-cell in
-    (omega arith, last .kept .1 .1 .1 .0 ∙ h .1, rw (add-one (c .before .before .before .before .before .loop .cell)) (last .ensures .0), last .ensures .1 ∙ h .3)
+    let last = c .before .before .renew-row in
+    (omega arith, last .kept .1 .1 .1 .0 ∙ h .1, at-bound 0 _ _ _ _ _ _ _ (omega arith) (last .ensures .0), last .ensures .1 ∙ h .3)
 
 same-length : tie.Need-same-length Inv-loop μ-loop
 same-length c = c .before .loop .inv .1
@@ -52,7 +48,7 @@ same-length c = c .before .loop .inv .1
 returns : tie.Need-returns Inv-loop μ-loop
 returns c =
     let h = c .before .loop .inv in
-    (all-renewed 0 _ _ _ _ (c .before .loop .cell) _ (omega arith) (h .2), h .3)
+    (all-renewed 0 _ _ _ _ (c .before .loop .above * 122) _ (omega arith) (h .2), h .3)
 
 pub renew-spec : {M : Type 1} → statement M
 renew-spec =
@@ -63,9 +59,8 @@ renew-spec =
     loop-holds
     mul-loop
     add-loop
-    mul-loop-2
-    renew-cell-requires
-    add-cell
+    renew-row-requires
+    add-above
     loop-less
     loop-again
     same-length
