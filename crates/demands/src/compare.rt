@@ -34,18 +34,19 @@ pub fn best_against_full(
             sum: 0,
         };
     }
+    let sum = found.sum;
     if number == 0 {
         return Compared {
             comparable: true,
             fits: true,
-            sum: found.sum,
+            sum,
         };
     }
     if number == NO_PLACING {
         return Compared {
             comparable: true,
             fits: false,
-            sum: found.sum,
+            sum,
         };
     }
     Compared {

@@ -1,6 +1,7 @@
 -- `demands::trips::job_there_and_back` meets its contract: what the reader found is what the writer writes back.
 use mathlib.Core.Path.{sym}
 use Prim.Native.Nat.{min}
+use native.Mathlib.Omega.{arith}
 use lib.ListN.{length}
 use lib.Seq.{length-take-le}
 use Rattle.demands.proofs.RoundTrips.{ReadMarks, read-marks, reader-refuses, same-job-back}
@@ -34,22 +35,22 @@ returns : tie.Need-returns
 returns c = reader-refuses _ _ _ _ _ (c .before .before .before .before .before .before .before .read .result) _ _ _ (c .before .before .before .before .before .before .before .read .ensures) (c .if1 .taken)
 
 slice-reshare-prefix-write : tie.Need-slice-reshare-prefix-write
-slice-reshare-prefix-write c = marks-of c .places-within
+slice-reshare-prefix-write c = omega (arith, marks-of c .places-within)
 
 slice-aggregate-write : tie.Need-slice-aggregate-write
-slice-aggregate-write c = sym (length-take-le _ _ (marks-of (c .before) .places-within))
+slice-aggregate-write c = sym (length-take-le _ _ (omega (arith, marks-of (c .before) .places-within)))
 
 slice-reshare-prefix-write-2 : tie.Need-slice-reshare-prefix-write-2
-slice-reshare-prefix-write-2 c = marks-of (c .before) .lengths-within
+slice-reshare-prefix-write-2 c = omega (arith, marks-of (c .before) .lengths-within)
 
 slice-aggregate-write-2 : tie.Need-slice-aggregate-write-2
-slice-aggregate-write-2 c = sym (length-take-le _ _ (marks-of (c .before .before) .lengths-within))
+slice-aggregate-write-2 c = sym (length-take-le _ _ (omega (arith, marks-of (c .before .before) .lengths-within)))
 
 slice-reshare-prefix-write-3 : tie.Need-slice-reshare-prefix-write-3
-slice-reshare-prefix-write-3 c = marks-of (c .before .before) .weights-within
+slice-reshare-prefix-write-3 c = omega (arith, marks-of (c .before .before) .weights-within)
 
 slice-aggregate-write-3 : tie.Need-slice-aggregate-write-3
-slice-aggregate-write-3 c = sym (length-take-le _ _ (marks-of (c .before .before .before) .weights-within))
+slice-aggregate-write-3 c = sym (length-take-le _ _ (omega (arith, marks-of (c .before .before .before) .weights-within)))
 
 write-requires : tie.Need-write-requires
 write-requires c κs = search needs

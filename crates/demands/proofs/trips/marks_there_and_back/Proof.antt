@@ -1,5 +1,6 @@
 -- `demands::trips::marks_there_and_back` meets its contract: what the writer wrote is what the reader reads back.
 use mathlib.Core.Path.{sym}
+use native.Mathlib.Omega.{arith}
 use lib.ListN.{length}
 use lib.Seq.{length-take-le}
 use Rattle.demands.proofs.RoundTrips.{WrittenJob, written-job, writer-refuses, same-marks-back}
@@ -27,10 +28,10 @@ returns : tie.Need-returns
 returns c = writer-refuses _ _ _ _ _ _ _ (c .before .before .before .before .write .result) _ (c .before .before .before .before .write .ensures) (c .if1 .taken)
 
 slice-reshare-prefix-read : tie.Need-slice-reshare-prefix-read
-slice-reshare-prefix-read c = job-of c .job-within
+slice-reshare-prefix-read c = omega (arith, job-of c .job-within)
 
 slice-aggregate-read : tie.Need-slice-aggregate-read
-slice-aggregate-read c = sym (length-take-le _ _ (job-of (c .before) .job-within))
+slice-aggregate-read c = sym (length-take-le _ _ (omega (arith, job-of (c .before) .job-within)))
 
 read-requires : tie.Need-read-requires
 read-requires c κs = search needs
