@@ -1,0 +1,3 @@
+-- What the contracts of the calls say together.
+pub mod BothPasses
+pub mod RoundTrips

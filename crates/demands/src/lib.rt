@@ -1,0 +1,5 @@
+// Small functions over the public calls alone, whose contracts are the user's sentences: their proofs lean on the contracts of
+// the calls and on the theorems about the definitions, so they show that the contracts suffice.
+pub mod answer;
+pub mod compare;
+pub mod trips;
