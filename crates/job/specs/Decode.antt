@@ -32,7 +32,7 @@ fieldIf true f bs = standingField f bs
 fieldIf false f bs = given (record { value = f .absent; rest = bs })
 
 abbrev pub decodeField : Field → ℕ → List ℕ → Outcome (Front ℕ)
-decodeField f map bs = fieldIf (bitStands (f .bit) map) f bs
+decodeField f mapByte bs = fieldIf (bitStands (f .bit) mapByte) f bs
 
 -- the place of a mark: "The first record has no step", its place stands in the header; any other is a step after the mark before
 abbrev pub placeAfter : Bool → ℤ → ℕ → ℤ
@@ -44,12 +44,12 @@ placeAfter false z step = z +ℤ pos step
 -- record, and the place of the mark before for any other.
 unfoldable pub decodeRecord : Bool → ℤ → List ℕ → Outcome (Front JobMark)
 decodeRecord first z [] = refusal bytesEnd
-decodeRecord first z (map ∷ bs) =
-    checked (not (strayBits map || (first && bitStands 0 map))) strayBit
-    (andThen (decodeField stepField map bs) (λ step.
+decodeRecord first z (mapByte ∷ bs) =
+    checked (not (strayBits mapByte || (first && bitStands 0 mapByte))) strayBit
+    (andThen (decodeField stepField mapByte bs) (λ step.
     checked (leZ (placeAfter first z (step .value)) (pos 30000)) fieldOutOfRange
-    (andThen (decodeField lengthField map (step .rest)) (λ len.
-    andThen (decodeField weightField map (len .rest)) (λ wt.
+    (andThen (decodeField lengthField mapByte (step .rest)) (λ len.
+    andThen (decodeField weightField mapByte (len .rest)) (λ wt.
     given (record { value = record { place = placeAfter first z (step .value); labelLength = len .value; weight = wt .value }; rest = wt .rest }))))))
 
 abbrev pub withMark : JobMark → Outcome Marks → Outcome Marks

@@ -32,8 +32,8 @@ weightField = record { bit = 2; width = 2; absent = 1; inRange = weightInRange }
 
 -- a bit of a map byte stands; bit 0 is the lowest
 abbrev pub bitStands : ℕ → ℕ → Bool
-bitStands k map = eqb (map / 2 ^ k % 2) 1
+bitStands k mapByte = eqb (mapByte / 2 ^ k % 2) 1
 
 -- "a bit of 3 to 7 stands"
 unfoldable pub strayBits : ℕ → Bool
-strayBits map = anyOf (λ k. bitStands k map) (3 ∷ 4 ∷ 5 ∷ 6 ∷ 7 ∷ [])
+strayBits mapByte = anyOf (λ k. bitStands k mapByte) (3 ∷ 4 ∷ 5 ∷ 6 ∷ 7 ∷ [])
