@@ -244,23 +244,6 @@ fn writes(t: Tally, case: u32, job: &mut [u8], number: u8, length: usize) -> Tal
     tally::same_count(first, case, got.length, length)
 }
 
-// Whether two lists have the same bytes.
-pub fn same_bytes(a: &[u8], b: &[u8]) -> bool {
-    if a.len() != b.len() {
-        return false;
-    }
-    let mut i = 0;
-    while i < a.len() {
-        if i < b.len() {
-            if a[i] != b[i] {
-                return false;
-            }
-        }
-        i += 1;
-    }
-    true
-}
-
 fn written(t: Tally) -> Tally {
     let mut job = [0u8; 26];
     let a = writes(t, 381, &mut job, 0, 26);
@@ -270,7 +253,7 @@ fn written(t: Tally) -> Tally {
 }
 
 fn is_strip11(job: &[u8; 26]) -> bool {
-    same_bytes(job, &STRIP11)
+    tally::begins_with(job, &STRIP11)
 }
 
 pub fn jobs() -> Tally {

@@ -2,6 +2,7 @@
 // line for each group, and a line for each case or strip that disagrees.
 mod jobs;
 mod lent;
+mod listings;
 mod random_best;
 mod random_full;
 mod random_slide;
@@ -48,6 +49,7 @@ fn main() {
     tally::print_group(b"ranges", ranges::ranges());
     tally::print_group(b"lent memory", lent::lent());
     tally::print_group(b"job bytes", jobs::jobs());
+    tally::print_group(b"listings", listings::listings());
     random_corners();
     random_slides();
 }

@@ -79,3 +79,20 @@ pub fn same_count(t: Tally, case: u32, got: usize, wanted: usize) -> Tally {
 pub fn holds(t: Tally, case: u32, is_so: bool) -> Tally {
     same_number(t, case, one_if(is_so), 1)
 }
+
+// Whether a list begins with these bytes.
+pub fn begins_with(list: &[u8], wanted: &[u8]) -> bool {
+    if list.len() < wanted.len() {
+        return false;
+    }
+    let mut i = 0;
+    while i < wanted.len() {
+        if i < list.len() {
+            if list[i] != wanted[i] {
+                return false;
+            }
+        }
+        i += 1;
+    }
+    true
+}

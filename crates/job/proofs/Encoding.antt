@@ -1,8 +1,8 @@
 -- Fields and records as they are written.
 use mathlib.Core.Path.{_≡_, refl, sym, _∙_, ap}
-use mathlib.Core.Bool.{Bool, true, false, cond}
+use mathlib.Core.Bool.{true, cond}
 use mathlib.Core.List.{List, [], _∷_, _++_, append-assoc}
-use Prim.Native.Nat.{ℕ, zero, suc, _+_, _≤_, _<_}
+use Prim.Native.Nat.{ℕ, _+_, _≤_, _<_}
 use native.Mathlib.Numerals.{add-one}
 use native.Mathlib.Omega.{arith}
 use borrow.Author.Tests.{eq-eqb, ne-eqb}
@@ -10,13 +10,12 @@ use lib.Dec.{eqb}
 use lib.IntN.{ℤ, pos}
 use lib.ListN.{length, getD, drop, set, length-append}
 use lib.Seq.{drop-cons, drop-length, sets, length-sets}
-use Rattle.geometry.proofs.Split.{by-eqb}
 use Rattle.job.specs.Number.{bytesOf, wordOf}
-use Rattle.job.specs.Format.{Field, stepField, lengthField, weightField}
+use Rattle.job.specs.Format.{Field}
 use Rattle.job.specs.Encode.{encodeBit, encodeField, encodeRecord, stepTo, encodeRecords, firstPlace, encode}
 use Rattle.job.specs.inner.Place.{placeOf}
 use Rattle.job.specs.inner.Step.{row}
-use Rattle.job.specs.inner.Writable.{Follows, GoodMark, Writable}
+use Rattle.job.specs.inner.Writable.{GoodMark, Writable}
 use Rattle.job.specs.inner.Put.{PutAt}
 use Rattle.job.proofs.Numbers.{bytes-length}
 use Rattle.job.proofs.Stores.{stores-append}

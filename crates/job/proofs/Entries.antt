@@ -1,23 +1,23 @@
 -- The writer's checks on entry say of each mark that its record can be written, and the other way round.
 use mathlib.Core.Path.{_≡_, refl, sym, _∙_, ap}
-use mathlib.Core.Bool.{Bool, true, false, _&&_}
+use mathlib.Core.Bool.{Bool, true, false}
 use mathlib.Core.List.{List, [], _∷_}
-use Prim.Native.Nat.{ℕ, suc, _≤_, _<_}
+use Prim.Native.Nat.{ℕ, suc, _≤_}
 use native.Mathlib.Omega.{arith}
 use borrow.Author.Tests.{leb-true, ltb-true, eqb-true, le-leb, lt-ltb, eq-eqb}
-use lib.Dec.{leb, ltb, eqb}
-use lib.IntN.{ℤ, pos}
-use lib.Signed.{mag, ltZ}
+use lib.Dec.{leb, eqb}
+use lib.IntN.{ℤ}
+use lib.Signed.{ltZ}
 use lib.ListN.{length}
 use Rattle.geometry.specs.Lists.{every}
 use Rattle.geometry.specs.Dot.{dot}
 use Rattle.geometry.specs.Mark.{placeInRange, lengthInRange, weightInRange, rising}
-use Rattle.geometry.specs.Refusal.{Refusal, Verdict, accepted, refused, afterCheck, firstFailure}
+use Rattle.geometry.specs.Refusal.{Refusal, Verdict, accepted, afterCheck, firstFailure}
 use Rattle.geometry.specs.Entry.{sameLengths, goodMarks, entry}
 use Rattle.geometry.proofs.Split.{both, and-fst, and-snd}
 use Rattle.geometry.proofs.Dots.{dot-lt, range-mag}
 use Rattle.job.specs.Encode.{firstPlace}
-use Rattle.job.specs.inner.Writable.{Follows, GoodMark, Writable}
+use Rattle.job.specs.inner.Writable.{Writable}
 
 -- the three mark lists, their tests and their lengths
 pub record Good (zs : List ℤ) (ls ws : List ℕ) : Type 0 where

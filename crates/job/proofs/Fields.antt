@@ -1,17 +1,16 @@
 -- A field whose bit stands, by the check that decides.
-use mathlib.Core.Path.{_≡_, refl, sym, _∙_, ap}
-use mathlib.Core.Bool.{Bool, true, false, not, _&&_}
+use mathlib.Core.Path.{_≡_, refl, ap}
+use mathlib.Core.Bool.{Bool, true, false, _&&_}
 use mathlib.Core.List.{List}
 use Prim.Native.Nat.{ℕ, _/_, _%_, _≤_, _<_}
-use native.Mathlib.Omega.{arith}
 use borrow.Author.Tests.{le-leb, lt-leb, eq-eqb, ne-eqb}
 use lib.Dec.{leb, eqb}
 use lib.ListN.{length, take, drop}
 use Rattle.geometry.specs.Refusal.{bytesEnd, absentValue, fieldOutOfRange}
 use Rattle.job.specs.Number.{bigEndian}
-use Rattle.job.specs.Outcome.{Outcome, given, refusal}
-use Rattle.job.specs.Format.{Field, stepField, lengthField, weightField, bitStands}
-use Rattle.job.specs.Decode.{Front, standingField, fieldIf, decodeField}
+use Rattle.job.specs.Outcome.{given, refusal}
+use Rattle.job.specs.Format.{Field, stepField, lengthField, weightField}
+use Rattle.job.specs.Decode.{standingField, fieldIf, decodeField}
 use Rattle.job.specs.inner.Step.{row}
 use Rattle.job.proofs.Maps.{lowest-bit}
 

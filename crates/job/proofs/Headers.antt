@@ -1,5 +1,5 @@
 -- A header, by the check that decides.
-use mathlib.Core.Path.{_≡_, refl, sym, _∙_, ap}
+use mathlib.Core.Path.{_≡_, refl}
 use mathlib.Core.Bool.{Bool, true, false, not, _&&_, _||_}
 use mathlib.Core.List.{List}
 use Prim.Native.Nat.{ℕ, _≤_, _<_}
@@ -11,8 +11,8 @@ use Rattle.geometry.specs.Mark.{placeInRange}
 use Rattle.geometry.specs.Refusal.{bytesEnd, fieldOutOfRange}
 use Rattle.geometry.proofs.Split.{and-fst, and-snd}
 use Rattle.geometry.proofs.Dots.{range-dots}
-use Rattle.job.specs.Outcome.{Outcome, given, refusal}
-use Rattle.job.specs.Decode.{Header, headerCount, headerPlace, zeroPlace, decodeHeader}
+use Rattle.job.specs.Outcome.{given, refusal}
+use Rattle.job.specs.Decode.{headerCount, headerPlace, zeroPlace, decodeHeader}
 use Rattle.job.specs.inner.Place.{placeOf}
 use Rattle.job.proofs.Places.{dot-of-place}
 

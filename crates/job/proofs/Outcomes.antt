@@ -1,9 +1,9 @@
 -- A number that stands for an outcome: 0 for a value, and else a refusal's own.
-use mathlib.Core.Path.{_≡_, refl, sym, _∙_, ap}
+use mathlib.Core.Path.{_≡_, refl, sym, _∙_}
 use mathlib.Core.Bool.{Bool, true, false}
 use Prim.Native.Nat.{ℕ}
 use native.Mathlib.Omega.{arith}
-use Rattle.geometry.specs.Refusal.{Refusal, refusalNumber, Verdict, accepted, refused, numberOf}
+use Rattle.geometry.specs.Refusal.{Refusal, refusalNumber, accepted, refused}
 use Rattle.geometry.proofs.Verdicts.{zero-accepted}
 use Rattle.job.specs.Outcome.{Outcome, given, refusal, checked, andThen, verdictOf}
 use Rattle.job.specs.inner.Step.{Says}

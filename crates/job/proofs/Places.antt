@@ -1,11 +1,11 @@
 -- The place of a dot, and the word of a place: sums and tests of one are those of the other.
 use mathlib.Core.Path.{_≡_, refl, sym, _∙_, ap}
-use mathlib.Core.Bool.{Bool, true, false, cond, _&&_}
-use Prim.Native.Nat.{ℕ, zero, suc, _+_, _-_, _≤_, _<_}
+use mathlib.Core.Bool.{true, false, cond}
+use Prim.Native.Nat.{ℕ, suc, _+_, _-_, _≤_, _<_}
 use native.Mathlib.Omega.{arith}
-use lib.Dec.{leb, ltb, eqb}
-use mathlib.Core.Logic.{_⊎_, inl, inr}
-use lib.IntN.{ℤ, pos, negsuc, subℕ, _+ℤ_, _-ℤ_}
+use lib.Dec.{eqb}
+use mathlib.Core.Logic.{inl, inr}
+use lib.IntN.{ℤ, pos, negsuc, _+ℤ_, _-ℤ_}
 use lib.Signed.{mag, leZ}
 use mir.Syntax.{w32}
 use mir.Val.{SFits, toZ, ofZ}
@@ -13,7 +13,7 @@ use mir.ValLaws.{toZ-ofZ}
 use borrow.Author.Tests.{lt-ltb, le-ltb, le-leb, lt-leb}
 use Rattle.geometry.specs.Dot.{dot}
 use Rattle.geometry.specs.Mark.{placeInRange}
-use Rattle.geometry.proofs.Split.{by-ltb, by-leb, by-eqb, lt-or-ge}
+use Rattle.geometry.proofs.Split.{by-ltb, by-eqb, lt-or-ge}
 use Rattle.job.specs.Number.{signed, wordOf}
 use Rattle.job.specs.Decode.{zeroPlace}
 use Rattle.job.specs.inner.Place.{placeOf}

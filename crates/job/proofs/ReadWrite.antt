@@ -1,24 +1,25 @@
 -- Read and written back: fields, records and the header. What was read can be written, and gives the same bytes.
 use mathlib.Core.Path.{_≡_, refl, sym, _∙_, ap}
-use mathlib.Core.Bool.{Bool, true, false, not, cond, _&&_, _||_}
+use mathlib.Core.Bool.{Bool, true, false, not, _&&_, _||_}
 use mathlib.Core.List.{List, [], _∷_, _++_, append-assoc}
-use mathlib.Core.Logic.{_⊎_, inl, inr}
-use Prim.Native.Nat.{ℕ, zero, suc, _+_, _-_, _*_, _≤_, _<_}
+use mathlib.Core.Logic.{inl, inr}
+use Prim.Native.Nat.{ℕ, zero, suc, _+_, _≤_, _<_}
 use native.Mathlib.Omega.{arith}
-use borrow.Author.Tests.{leb-true, ltb-true, eqb-true, eqb-false, le-leb, eq-eqb, ne-eqb, not-true, not-false}
+use borrow.Author.Tests.{leb-true, eqb-true, eqb-false, eq-eqb, not-true}
 use lib.Dec.{leb, eqb}
-use lib.IntN.{ℤ, pos, negsuc, _+ℤ_}
-use lib.Signed.{mag, leZ}
-use lib.ListN.{length, getD, take, drop, length-append}
+use lib.IntN.{ℤ, pos, _+ℤ_}
+use lib.Signed.{leZ}
+use lib.ListN.{length, take, drop}
 use lib.Seq.{getD-drop}
 use Rattle.geometry.specs.Dot.{dot}
-use Rattle.geometry.specs.Mark.{placeInRange, lengthInRange, weightInRange}
-use Rattle.geometry.specs.Refusal.{Refusal, bytesEnd, strayBit, absentValue, fieldOutOfRange, listTooShort}
-use Rattle.geometry.proofs.Split.{by-eqb, lt-or-ge, clash, and-fst, and-snd}
+use Rattle.geometry.specs.Mark.{placeInRange}
+use Rattle.geometry.specs.Refusal.{bytesEnd, strayBit, absentValue, fieldOutOfRange}
+use Rattle.geometry.proofs.Split.{lt-or-ge, clash, and-fst}
 use Rattle.geometry.proofs.Dots.{dot-add, range-dots, range-mag}
-use Rattle.job.specs.Number.{bigEndian, bytesOf, signed, wordOf, Bytes}
-use Rattle.job.specs.Outcome.{Outcome, given, refusal, checked, andThen}
-use Rattle.job.specs.Format.{Field, stepField, lengthField, weightField, stepInRange, bitStands, strayBits, Marks, JobMark, noMarks, consMark}
+use Rattle.job.specs.Number.{bigEndian, bytesOf, Bytes}
+use Rattle.job.specs.Outcome.{Outcome, given, checked, andThen}
+use Rattle.job.specs.Format.{Field, stepField, lengthField, weightField, bitStands, strayBits}
+use Rattle.job.specs.Marks.{Marks, JobMark}
 use Rattle.job.specs.Decode.{Front, standingField, fieldIf, decodeField, placeAfter, decodeRecord, decodeRecords}
 use Rattle.job.specs.Encode.{encodeBit, encodeField, encodeRecord, stepTo, encodeRecords}
 use Rattle.job.specs.inner.Place.{placeOf}
@@ -26,7 +27,7 @@ use Rattle.job.specs.inner.Writable.{Follows, GoodMark, Writable}
 use Rattle.job.proofs.Places.{place-of-dot, place-step, place-above, place-fits}
 use Rattle.job.proofs.Numbers.{same-one, same-two}
 use Rattle.job.proofs.Outcomes.{checked-given, then-given, given-same}
-use Rattle.job.proofs.Maps.{bits, map-bits, some-stray}
+use Rattle.job.proofs.Maps.{map-bits, some-stray}
 use Rattle.job.proofs.Turns.{split-records, no-records}
 use Rattle.job.proofs.Encoding.{field-none, field-some}
 
@@ -163,7 +164,7 @@ record-inverse first z (map ∷ bs) x pz h e =
     let step = field-inverse stepField (bitStands 0 map) bs (q .first) refl (front-two bs tail) tail (q .is) in
     let len = field-inverse lengthField (bitStands 1 map) (q .first .rest) (t .first) refl (front-one (q .first .rest) (step .tail)) (step .tail) (t .is) in
     let wt = field-inverse weightField (bitStands 2 map) (t .first .rest) (u .first) refl (front-two (t .first .rest) (len .tail)) (len .tail) (u .is) in
-    rw (← given-same _ x (u .after)) (together first z map pz bs (h 0) (not-true _ (p .passes)) (q .first) (t .first) (u .first) (r .passes) step len wt)
+    rw (← given-same (record { value = record { place = y; labelLength = t .first .value; weight = u .first .value }; rest = u .first .rest }) x (u .after)) (together first z map pz bs (h 0) (not-true _ (p .passes)) (q .first) (t .first) (u .first) (r .passes) step len wt)
 
 -- all records
 pub record Back (first : Bool) (z : ℤ) (bs : List ℕ) (ms : Marks) : Type 0 where

@@ -1,16 +1,15 @@
 -- The whole job, by the check that decides, and what the call then leaves.
-use mathlib.Core.Path.{_≡_, refl, sym, _∙_, ap}
-use mathlib.Core.Bool.{Bool, true, false}
+use mathlib.Core.Path.{_≡_, refl, sym, ap}
+use mathlib.Core.Bool.{Bool, true}
 use mathlib.Core.List.{List}
 use Prim.Native.Nat.{ℕ, _≤_, _<_}
 use native.Mathlib.Omega.{arith}
 use borrow.Author.Tests.{le-leb, lt-leb}
 use lib.IntN.{ℤ}
-use lib.ListN.{length, drop}
+use lib.ListN.{drop}
 use Rattle.geometry.specs.Refusal.{Refusal, accepted, numberOf, listTooShort}
-use Rattle.geometry.proofs.Verdicts.{zero-accepted}
 use Rattle.job.specs.Outcome.{Outcome, given, refusal, verdictOf}
-use Rattle.job.specs.Format.{Marks}
+use Rattle.job.specs.Marks.{Marks}
 use Rattle.job.specs.Decode.{Header, decodeHeader, decodeRecords, decode}
 use Rattle.job.specs.Calls.{ReadCall, usedOf}
 use Rattle.job.specs.inner.Place.{placeOf}

@@ -1,20 +1,18 @@
 -- A record, by the check that decides.
-use mathlib.Core.Path.{_≡_, refl, sym, _∙_, ap}
-use mathlib.Core.Bool.{Bool, true, false, not, _&&_, _||_}
-use mathlib.Core.List.{List, [], _∷_}
+use mathlib.Core.Path.{_≡_, refl, _∙_, ap}
+use mathlib.Core.Bool.{Bool, true, false, _&&_, _||_}
+use mathlib.Core.List.{List, _∷_}
 use Prim.Native.Nat.{ℕ, _+_, _≤_, _<_}
-use native.Mathlib.Omega.{arith}
 use lib.IntN.{ℤ, pos}
 use lib.Signed.{leZ}
 use lib.ListN.{length, drop}
 use Rattle.geometry.specs.Refusal.{Refusal, strayBit, fieldOutOfRange}
-use Rattle.job.specs.Outcome.{Outcome, given, refusal}
-use Rattle.job.specs.Format.{stepField, lengthField, weightField, bitStands, strayBits, JobMark}
+use Rattle.job.specs.Outcome.{given, refusal}
+use Rattle.job.specs.Format.{stepField, lengthField, weightField, bitStands, strayBits}
 use Rattle.job.specs.Decode.{Front, decodeField, placeAfter, decodeRecord}
 use Rattle.job.specs.inner.Place.{placeOf}
 use Rattle.job.specs.inner.Step.{Says, FieldAt, RecordAt}
 use Rattle.job.specs.declared.field.FieldRead.{FieldRead}
-use Rattle.job.specs.declared.record.RecordRead.{RecordRead}
 use Rattle.job.proofs.Outcomes.{IsRefused, IsGiven, says-refused, says-given}
 use Rattle.job.proofs.Places.{place-below, place-above}
 

@@ -2,20 +2,20 @@
 use mathlib.Core.Path.{_≡_, refl, sym, _∙_, ap}
 use mathlib.Core.Bool.{Bool, true, false, not, cond, _&&_, _||_}
 use mathlib.Core.List.{List, [], _∷_, _++_}
-use Prim.Native.Nat.{ℕ, zero, suc, _+_, _*_, _≤_, _<_}
+use Prim.Native.Nat.{ℕ, _+_, _*_, _≤_, _<_}
 use native.Mathlib.Omega.{arith}
 use borrow.Author.Tests.{leb-true, eq-eqb}
 use lib.Dec.{leb, eqb}
 use lib.IntN.{ℤ, pos, negsuc}
-use lib.Signed.{leZ}
-use lib.ListN.{length, take, drop, length-append}
+use lib.ListN.{length, drop, length-append}
 use Rattle.geometry.specs.Mark.{placeInRange}
 use Rattle.geometry.specs.Refusal.{accepted, bytesEnd, fieldOutOfRange, listTooShort}
 use Rattle.geometry.specs.Entry.{entry}
 use Rattle.geometry.proofs.Split.{by-eqb, and-fst, and-snd}
-use Rattle.job.specs.Number.{bigEndian, bytesOf, signed, wordOf, Bytes}
-use Rattle.job.specs.Outcome.{Outcome, given, refusal, checked, andThen}
-use Rattle.job.specs.Format.{Field, Marks}
+use Rattle.job.specs.Number.{bigEndian, bytesOf, wordOf, Bytes}
+use Rattle.job.specs.Outcome.{Outcome, given, checked}
+use Rattle.job.specs.Format.{Field}
+use Rattle.job.specs.Marks.{Marks}
 use Rattle.job.specs.Decode.{decodeRecords, Header, headerCount, headerPlace, zeroPlace, decodeHeader, decode}
 use Rattle.job.specs.Encode.{encodeField, encodeRecord, stepTo, encodeRecords, firstPlace, encode, jobFor}
 use Rattle.job.specs.inner.Step.{row}
@@ -23,7 +23,7 @@ use Rattle.job.specs.inner.Writable.{Writable}
 use Rattle.job.proofs.Places.{word-signed}
 use Rattle.job.proofs.Numbers.{two-bytes, same-two, bytes-length}
 use Rattle.job.proofs.Outcomes.{checked-given, then-given, given-same}
-use Rattle.job.proofs.Turns.{Count, count-marks}
+use Rattle.job.proofs.Turns.{count-marks}
 use Rattle.job.proofs.Encoding.{record-size, encode-size}
 use Rattle.job.proofs.Entries.{entry-good, good-entry, good-writable, writable-good}
 use Rattle.job.proofs.Writing.{job-inverse, job-made}

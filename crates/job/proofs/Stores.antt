@@ -1,17 +1,17 @@
 -- Lists that are filled store by store.
 use mathlib.Core.Path.{_≡_, refl, sym, _∙_, ap}
-use mathlib.Core.Bool.{Bool, true, false}
+use mathlib.Core.Bool.{Bool}
 use mathlib.Core.List.{List, [], _∷_, _++_}
-use Prim.Native.Nat.{ℕ, zero, suc, _+_, _≤_, _<_}
-use native.Mathlib.Nat.{zero-add, add-zero, add-suc, suc-add}
+use Prim.Native.Nat.{ℕ, suc, _+_, _≤_, _<_}
+use native.Mathlib.Nat.{zero-add, add-zero}
 use native.Mathlib.Numerals.{add-one}
 use native.Mathlib.Omega.{arith}
-use lib.ListN.{length, take, drop, set}
+use lib.ListN.{length, drop, set}
 use lib.Seq.{sets, sets-eq}
-use Rattle.geometry.specs.Refusal.{Refusal, Verdict, accepted}
+use Rattle.geometry.specs.Refusal.{Refusal, accepted}
 use Rattle.geometry.specs.Pass.{written}
 use Rattle.job.specs.Outcome.{Outcome, given, refusal, verdictOf}
-use Rattle.job.specs.Format.{Marks, JobMark, noMarks, consMark}
+use Rattle.job.specs.Marks.{Marks, JobMark, noMarks, consMark}
 use Rattle.job.specs.Decode.{withMark, decodeRecord, decodeRecords}
 use Rattle.job.specs.Calls.{leftAs}
 use lib.IntN.{ℤ}
@@ -20,7 +20,7 @@ use Rattle.geometry.proofs.Split.{by-bool}
 use Rattle.job.specs.inner.Place.{placeOf}
 use Rattle.job.specs.inner.Step.{Says, RecordAt}
 use Rattle.job.specs.declared.record.RecordRead.{RecordRead}
-use Rattle.job.proofs.Outcomes.{IsGiven, accepted-given}
+use Rattle.job.proofs.Outcomes.{accepted-given}
 use Rattle.job.proofs.Turns.{leftAt, turn-accepted, read-good, turn-verdict, turn-next, Count, count-marks}
 
 module _ {A : Type 0} where
@@ -54,31 +54,33 @@ left-as-stored part (given ms) old e h = stores-written (part ms) old h
 left-as-stored part (refusal r) old e h = let z : _≡_ {A = ℕ} 0 1 = cc in absurd (omega arith)
 
 -- a turn over records that are all accepted: the record's mark is the first of those that are left
-module _ (job : List ℕ) (count at d i : ℕ) (more : i < count) (r : RecordRead) (says : Says (r .number) (decodeRecord (eqb i 0) (placeOf d) (drop at job)) (RecordAt job r)) (acc : verdictOf (leftAt job count at d i) ≡ accepted) where
-  good : r .number ≡ 0
-  good = turn-accepted job count at d i more r says acc
-
-  pub turn-given : IsGiven (decodeRecord (eqb i 0) (placeOf d) (drop at job)) (RecordAt job r)
-  turn-given = read-good job count at d i more r says good
-
+pub record Turn (job : List ℕ) (count at d i : ℕ) (r : RecordRead) : Type 0 where
+  pub within : r .next ≤ length job
+  pub high : r .dot ≤ 62768
   pub still-accepted : verdictOf (leftAt job count (r .next) (r .dot) (i + 1)) ≡ accepted
-  still-accepted = sym (turn-verdict job count at d i more r says good) ∙ acc
-
-  next-marks : marksIn (leftAt job count at d i) ≡ consMark (turn-given .value .value) (marksIn (leftAt job count (r .next) (r .dot) (i + 1)))
-  unfolding turn-given
-  next-marks = ap marksIn (turn-next job count at d i more r says good) ∙ with-marks (turn-given .value .value) (leftAt job count (r .next) (r .dot) (i + 1)) still-accepted
-
   pub next-place : marksIn (leftAt job count at d i) .places ≡ placeOf (r .dot) ∷ marksIn (leftAt job count (r .next) (r .dot) (i + 1)) .places
-  next-place = ap (λ (ms : Marks). ms .places) next-marks ∙ ap (λ (z : ℤ). z ∷ marksIn (leftAt job count (r .next) (r .dot) (i + 1)) .places) (turn-given .holds .place-is)
-
   pub next-length : marksIn (leftAt job count at d i) .lengths ≡ r .length ∷ marksIn (leftAt job count (r .next) (r .dot) (i + 1)) .lengths
-  next-length = ap (λ (ms : Marks). ms .lengths) next-marks ∙ ap (λ (l : ℕ). l ∷ marksIn (leftAt job count (r .next) (r .dot) (i + 1)) .lengths) (turn-given .holds .length-is)
-
   pub next-weight : marksIn (leftAt job count at d i) .weights ≡ r .weight ∷ marksIn (leftAt job count (r .next) (r .dot) (i + 1)) .weights
-  next-weight = ap (λ (ms : Marks). ms .weights) next-marks ∙ ap (λ (w : ℕ). w ∷ marksIn (leftAt job count (r .next) (r .dot) (i + 1)) .weights) (turn-given .holds .weight-is)
+
+pub turn : (job : List ℕ) (count at d i : ℕ) → i < count → (r : RecordRead) → Says (r .number) (decodeRecord (eqb i 0) (placeOf d) (drop at job)) (RecordAt job r) → verdictOf (leftAt job count at d i) ≡ accepted → Turn job count at d i r
+turn job count at d i more r says acc =
+    let good = turn-accepted job count at d i more r says acc in
+    let g = read-good job count at d i more r says good in
+    let rest = leftAt job count (r .next) (r .dot) (i + 1) in
+    let still = sym (turn-verdict job count at d i more r says good) ∙ acc in
+    let e = ap marksIn (turn-next job count at d i more r says good) ∙ with-marks (g .value .value) rest still in
+    record {
+      within = g .holds .within;
+      high = g .holds .high;
+      still-accepted = still;
+      next-place = ap (λ (ms : Marks). ms .places) e ∙ ap (λ (z : ℤ). z ∷ marksIn rest .places) (g .holds .place-is);
+      next-length = ap (λ (ms : Marks). ms .lengths) e ∙ ap (λ (l : ℕ). l ∷ marksIn rest .lengths) (g .holds .length-is);
+      next-weight = ap (λ (ms : Marks). ms .weights) e ∙ ap (λ (w : ℕ). w ∷ marksIn rest .weights) (g .holds .weight-is);
+    }
 
 -- after the last record: a list that was filled so is the one that the call leaves
-pub all-stored : {A : Type 0} (part : Marks → List A) → part noMarks ≡ [] → (d : Outcome Marks) (old cur : List A) (n : ℕ) (first : Bool) (z : ℤ) (bs : List ℕ) → verdictOf d ≡ accepted → length (part (marksIn d)) ≤ length old → sets old 0 (part (marksIn d)) ≡ sets cur n (part (marksIn (decodeRecords 0 first z bs))) → cur ≡ leftAs part d old
+pub all-stored : {A : Type 0} (part : Marks → List A) → part noMarks ≡ [] → (d : Outcome Marks) (old cur : List A) (n : ℕ) (first : Bool) (z : ℤ) (bs : List ℕ)
+    → verdictOf d ≡ accepted → length (part (marksIn d)) ≤ length old → sets old 0 (part (marksIn d)) ≡ sets cur n (part (marksIn (decodeRecords 0 first z bs))) → cur ≡ leftAs part d old
 all-stored part none d old cur n first z bs acc h e = sym (rw (none-left first z bs, none) at e) ∙ left-as-stored part d old acc h
 
 -- an accepted outcome of n records has n marks

@@ -1,6 +1,6 @@
 -- One turn over the records: the answer for what is left is that for what is left after one record more.
 use mathlib.Core.Path.{_≡_, refl, sym, _∙_, ap}
-use mathlib.Core.Bool.{Bool, true, false}
+use mathlib.Core.Bool.{Bool, false}
 use mathlib.Core.List.{List, [], _∷_}
 use Prim.Native.Nat.{ℕ, zero, suc, _+_, _-_, _≤_, _<_}
 use native.Mathlib.Omega.{arith}
@@ -8,15 +8,15 @@ use borrow.Author.Tests.{leb-true, le-leb, lt-leb, ne-eqb}
 use lib.Dec.{leb, eqb}
 use lib.IntN.{ℤ}
 use lib.ListN.{length, drop, length-drop}
-use Rattle.geometry.specs.Refusal.{Refusal, Verdict, accepted, refused, numberOf, bytesLeftOver}
+use Rattle.geometry.specs.Refusal.{Refusal, accepted, numberOf, bytesLeftOver}
 use Rattle.geometry.proofs.Split.{by-eqb}
 use Rattle.job.specs.Outcome.{Outcome, given, refusal, verdictOf}
-use Rattle.job.specs.Format.{Marks, JobMark, noMarks, consMark}
+use Rattle.job.specs.Marks.{Marks, JobMark, noMarks, consMark}
 use Rattle.job.specs.Decode.{Front, decodeRecord, withMark, decodeRecords}
 use Rattle.job.specs.inner.Place.{placeOf}
 use Rattle.job.specs.inner.Step.{Says, RecordAt}
 use Rattle.job.specs.declared.record.RecordRead.{RecordRead}
-use Rattle.job.proofs.Outcomes.{IsRefused, IsGiven, says-refused, says-given, checked-given, then-given, given-same}
+use Rattle.job.proofs.Outcomes.{IsGiven, says-refused, says-given, checked-given, then-given, given-same}
 
 pub with-verdict : (m : JobMark) (o : Outcome Marks) → verdictOf (withMark m o) ≡ verdictOf o
 with-verdict m (given ms) = refl

@@ -2,23 +2,22 @@
 use mathlib.Core.Path.{_≡_, refl, sym, _∙_, ap}
 use mathlib.Core.Bool.{Bool, true, false, not, cond, _&&_, _||_}
 use mathlib.Core.List.{List, [], _∷_, _++_, append-assoc}
-use Prim.Native.Nat.{ℕ, zero, suc, _+_, _-_, _≤_, _<_}
+use Prim.Native.Nat.{ℕ, _+_, _-_, _≤_, _<_}
 use native.Mathlib.Omega.{arith}
 use borrow.Author.Tests.{leb-true, le-leb, ne-eqb}
 use lib.Dec.{leb, eqb}
 use lib.IntN.{ℤ, pos, negsuc, _+ℤ_}
-use lib.Signed.{mag, leZ}
+use lib.Signed.{leZ}
 use lib.ListN.{length, take, drop, length-append}
 use lib.Seq.{take-at, drop-at, drop-drop}
-use Rattle.geometry.specs.Lists.{anyOf}
 use Rattle.geometry.specs.Dot.{dot}
-use Rattle.geometry.specs.Mark.{placeInRange, lengthInRange, weightInRange}
-use Rattle.geometry.proofs.Split.{by-eqb, and-fst, and-snd}
+use Rattle.geometry.specs.Mark.{placeInRange}
+use Rattle.geometry.proofs.Split.{by-eqb, and-snd}
 use Rattle.geometry.proofs.Dots.{dot-add, mag-add, dot-injective, range-dots, range-mag}
-use Rattle.job.specs.Number.{bigEndian, bytesOf, signed, wordOf}
-use Rattle.job.specs.Outcome.{Outcome, given, refusal}
-use Rattle.job.specs.Format.{Field, stepField, lengthField, weightField, stepInRange, bitStands, strayBits, Marks, JobMark, noMarks, consMark}
-use Rattle.job.specs.Decode.{Front, standingField, fieldIf, decodeField, placeAfter, decodeRecord, withMark, decodeRecords, Header, headerCount, headerPlace, zeroPlace, decodeHeader, decode}
+use Rattle.job.specs.Number.{bigEndian, bytesOf, wordOf}
+use Rattle.job.specs.Outcome.{given}
+use Rattle.job.specs.Format.{Field, stepField, lengthField, weightField, bitStands, strayBits}
+use Rattle.job.specs.Decode.{fieldIf, decodeField, placeAfter, decodeRecord, decodeRecords, headerCount, headerPlace, zeroPlace, decodeHeader, decode}
 use Rattle.job.specs.Encode.{encodeBit, encodeField, encodeRecord, stepTo, encodeRecords, firstPlace, encode}
 use Rattle.job.specs.inner.Writable.{Follows, GoodMark, Writable}
 use Rattle.job.proofs.Places.{signed-word, word-fits}
@@ -26,9 +25,8 @@ use Rattle.job.proofs.Numbers.{bytes-length, back-one, back-two}
 use Rattle.job.proofs.Maps.{bits, MapOf, bits-map, no-stray}
 use Rattle.job.proofs.Fields.{field-good, in-range}
 use Rattle.job.proofs.Records.{record-good}
-use Rattle.job.proofs.Turns.{records-next}
 use Rattle.job.proofs.Reading.{decode-records}
-use Rattle.job.proofs.Encoding.{field-none, field-some, encode-size}
+use Rattle.job.proofs.Encoding.{encode-size}
 
 -- a field: left out, or its bytes
 field-back : (f : Field) (v : ℕ) (rest : List ℕ) → bigEndian (bytesOf (f .width) v) ≡ v → f .inRange v ≡ true

@@ -1,18 +1,18 @@
 -- The writer, by the check that decides, and what the call then leaves.
-use mathlib.Core.Path.{_≡_, refl, sym, _∙_, ap}
-use mathlib.Core.Bool.{Bool, true, false}
+use mathlib.Core.Path.{_≡_, refl, sym, _∙_}
+use mathlib.Core.Bool.{true}
 use mathlib.Core.List.{List, _++_}
-use Prim.Native.Nat.{ℕ, _+_, _≤_, _<_}
+use Prim.Native.Nat.{ℕ, _≤_, _<_}
 use native.Mathlib.Omega.{arith}
 use borrow.Author.Tests.{leb-true, le-leb, lt-leb}
 use lib.Dec.{leb}
 use lib.IntN.{ℤ}
 use lib.ListN.{length}
 use lib.Seq.{sets}
-use Rattle.geometry.specs.Refusal.{Refusal, Verdict, accepted, refused, numberOf, listTooShort}
+use Rattle.geometry.specs.Refusal.{Verdict, accepted, refused, numberOf, listTooShort}
 use Rattle.geometry.specs.Entry.{entry}
 use Rattle.job.specs.Number.{bytesOf, wordOf}
-use Rattle.job.specs.Outcome.{Outcome, given, refusal, checked}
+use Rattle.job.specs.Outcome.{Outcome, given, checked}
 use Rattle.job.specs.Encode.{encodeRecords, firstPlace, encode, afterEntry, jobFor}
 use Rattle.job.specs.Calls.{WriteCall}
 use Rattle.job.proofs.Outcomes.{IsRefused, checked-given, given-same}

@@ -1,13 +1,13 @@
 -- What the two job calls settle: the number, the count or the length, and each lent list at exit.
 use Prim.Native.Nat.{ℕ}
 use mathlib.Core.Path.{_≡_}
-use mathlib.Core.List.{List, []}
+use mathlib.Core.List.{List}
 use lib.IntN.{ℤ}
 use lib.ListN.{length}
 use Rattle.geometry.specs.Refusal.{numberOf}
 use Rattle.geometry.specs.Pass.{written}
 use Rattle.job.specs.Outcome.{Outcome, given, refusal, verdictOf}
-use Rattle.job.specs.Format.{Marks}
+use Rattle.job.specs.Marks.{Marks}
 use Rattle.job.specs.declared.answer.Read.{Read}
 use Rattle.job.specs.declared.answer.Written.{Written}
 

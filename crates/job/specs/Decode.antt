@@ -1,16 +1,17 @@
 -- What the bytes of a job say: its marks, or the first check that is not passed, in the order of "Where the labeller says no".
 use Prim.Native.Nat.{ℕ, zero, suc}
 use mathlib.Core.List.{List, [], _∷_}
-use mathlib.Core.Bool.{Bool, true, false, not, cond, _&&_, _||_}
+use mathlib.Core.Bool.{Bool, true, false, not, _&&_, _||_}
 use lib.Dec.{leb, eqb}
 use lib.IntN.{ℤ, pos, _+ℤ_}
 use lib.Signed.{leZ}
 use lib.ListN.{length, take, drop}
 use Rattle.geometry.specs.Mark.{placeInRange}
-use Rattle.geometry.specs.Refusal.{Refusal, bytesEnd, strayBit, absentValue, fieldOutOfRange, bytesLeftOver, listTooShort}
+use Rattle.geometry.specs.Refusal.{bytesEnd, strayBit, absentValue, fieldOutOfRange, bytesLeftOver, listTooShort}
 use Rattle.job.specs.Number.{bigEndian, signed}
 use Rattle.job.specs.Outcome.{Outcome, given, refusal, checked, andThen}
-use Rattle.job.specs.Format.{Field, stepField, lengthField, weightField, bitStands, strayBits, Marks, JobMark, noMarks, consMark}
+use Rattle.job.specs.Format.{Field, stepField, lengthField, weightField, bitStands, strayBits}
+use Rattle.job.specs.Marks.{Marks, JobMark, noMarks, consMark}
 
 -- a value at the front of some bytes, and the bytes after it
 pub record Front (A : Type 0) : Type 0 where

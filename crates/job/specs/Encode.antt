@@ -1,6 +1,6 @@
 -- The job of a list of marks: header, then a record for each mark. "A field holding the value it would have if absent is wrong", so
 -- such a field is left out.
-use Prim.Native.Nat.{ℕ, zero, suc, _+_, _-_, _^_}
+use Prim.Native.Nat.{ℕ, _+_, _-_, _^_}
 use mathlib.Core.List.{List, [], _∷_, _++_}
 use mathlib.Core.Bool.{Bool, true, false, cond}
 use lib.Dec.{leb, eqb}
@@ -25,7 +25,7 @@ encodeRecord step l w =
     (encodeBit stepField step + (encodeBit lengthField l + encodeBit weightField w))
     ∷ (encodeField stepField step ++ (encodeField lengthField l ++ encodeField weightField w))
 
--- the step from a place z to a place y. "The first record has no step": as a record without a step field has the absent value
+-- the step from a place z to a place y. "The first record has no step": the absent value stands for it, which writes no field
 abbrev pub stepTo : Bool → ℤ → ℤ → ℕ
 stepTo true z y = stepField .absent
 stepTo false z y = dot y - dot z

@@ -1,10 +1,9 @@
 -- "a record for each mark: a bit map byte, then only the fields whose bit stands, in this order." The table of fields, row by
 -- row, with the range of each.
 use Prim.Native.Nat.{ℕ, _/_, _%_, _^_}
-use mathlib.Core.List.{List, [], _∷_}
+use mathlib.Core.List.{[], _∷_}
 use mathlib.Core.Bool.{Bool, _&&_}
 use lib.Dec.{leb, eqb}
-use lib.IntN.{ℤ}
 use Rattle.geometry.specs.Lists.{anyOf}
 use Rattle.geometry.specs.Mark.{lengthInRange, weightInRange}
 
@@ -38,21 +37,3 @@ bitStands k map = eqb (map / 2 ^ k % 2) 1
 -- "a bit of 3 to 7 stands"
 unfoldable pub strayBits : ℕ → Bool
 strayBits map = anyOf (λ k. bitStands k map) (3 ∷ 4 ∷ 5 ∷ 6 ∷ 7 ∷ [])
-
--- the marks of a job: "three mark lists (places, lengths, weights)"
-pub record Marks : Type 0 where
-  pub places : List ℤ
-  pub lengths : List ℕ
-  pub weights : List ℕ
-
--- one mark of a job
-pub record JobMark : Type 0 where
-  pub place : ℤ
-  pub labelLength : ℕ
-  pub weight : ℕ
-
-abbrev pub noMarks : Marks
-noMarks = record { places = []; lengths = []; weights = [] }
-
-abbrev pub consMark : JobMark → Marks → Marks
-consMark m ms = record { places = m .place ∷ ms .places; lengths = m .labelLength ∷ ms .lengths; weights = m .weight ∷ ms .weights }

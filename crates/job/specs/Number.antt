@@ -1,7 +1,7 @@
 -- "Big-endian." A number of a job as its bytes, the most significant first.
 use Prim.Native.Nat.{ℕ, zero, suc, _+_, _-_, _*_, _/_, _%_, _^_, _<_}
 use mathlib.Core.List.{List, [], _∷_}
-use mathlib.Core.Bool.{Bool, cond}
+use mathlib.Core.Bool.{cond}
 use lib.Dec.{ltb}
 use lib.IntN.{ℤ, pos, negsuc}
 use lib.ListN.{length, getD}
@@ -24,6 +24,6 @@ unfoldable pub wordOf : ℤ → ℕ
 wordOf (pos n) = n
 wordOf (negsuc n) = 65535 - n
 
--- each of them is a byte
+-- each of them is a byte, as each element of a slice of bytes is
 abbrev pub Bytes : List ℕ → Type 0
 Bytes bs = (i : ℕ) → getD bs i 0 < 256

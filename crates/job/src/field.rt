@@ -35,7 +35,9 @@ pub fn number_at(job: &[u8], at: usize, width: usize) -> u16
     if width == 1 {
         return wide(job[at]);
     }
-    wide(job[at]) * 256 + wide(job[at + 1])
+    let high = wide(job[at]);
+    let low = wide(job[at + 1]);
+    high * 256 + low
 }
 
 // The field at a position: its absent value where its bit does not stand. Else 1 if the bytes end inside it, 3 if it holds its

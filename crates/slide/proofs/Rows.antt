@@ -6,6 +6,7 @@ use mathlib.Core.List.{List, [], _∷_}
 use Prim.Native.Nat.{ℕ, zero, suc, _+_, _-_, _*_, _≤_, _<_, max}
 use native.Mathlib.Omega.{arith}
 use native.Mathlib.Numerals.{add-one}
+use borrow.Author.Tests.{le-leb, lt-leb}
 use lib.ListN.{length, getD, drop, set, length-set}
 use lib.Seq.{drop-drop, getD-drop, getD-set-same, getD-set-other, drop-set-lt}
 use Rattle.geometry.specs.Mark.{Mark}
@@ -36,6 +37,13 @@ filled-more old new row d v value filled small inside is =
 pub next-row : {old new : List ℕ} {row d : ℕ} {value : ℕ → ℕ} → FilledTo old new row d value → rowFrom new (row + 241) ≡ rowFrom old (row + 241)
 next-row {old} {new} {row} filled =
     fun-ext (λ e. sym (getD-drop (row + 241) new e 0) ∙ ap (λ (l : List ℕ). getD l e 0) (filled .behind) ∙ getD-drop (row + 241) old e 0)
+
+-- the cell of a label on the side of the reach, as the code finds it
+pub own-beyond : (m : Mark) (t : ℕ) (f : ℕ → ℕ) → m .place < t → 0 ≡ ownSide m t f
+own-beyond m t f h = rw (lt-leb t (m .place) h) refl
+
+pub own-by-cell : (m : Mark) (t d : ℕ) (f : ℕ → ℕ) → t ≤ m .place → d ≡ slidBy m t → f d ≡ ownSide m t f
+own-by-cell m t d f h e = rw (le-leb t (m .place) h, e) refl
 
 -- a row reads the cells of the next mark up to its label's length
 pub room-same : (m : Mark) (t : ℕ) (f h : ℕ → ℕ) → m .labelLength < m .place → ((d : ℕ) → d ≤ m .labelLength → f d ≡ h d) → roomBefore m t f ≡ roomBefore m t h

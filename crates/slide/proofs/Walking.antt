@@ -5,7 +5,7 @@ use mathlib.Core.Logic.{⊎-elim}
 use mathlib.Core.List.{List, [], _∷_}
 use Prim.Native.Nat.{ℕ, suc, _+_, _≤_, _<_}
 use native.Mathlib.Omega.{arith}
-use borrow.Author.Tests.{leb-true, le-leb}
+use borrow.Author.Tests.{leb-true, le-leb, lt-leb}
 use lib.Dec.{leb, ltb}
 use lib.ListN.{length}
 use Rattle.geometry.specs.Mark.{Mark}
@@ -88,6 +88,13 @@ first-cell g m ms inside =
     or-same : (t : Bool) → (t || t) ≡ t
     or-same true = refl
     or-same false = refl
+
+-- the test, as the code makes it
+pub above-beyond : (m : Mark) (a b : ℕ) (f : ℕ → ℕ) → m .place < a → false ≡ takesAbove a b m f
+above-beyond m a b f h = rw (lt-leb a (m .place) h) refl
+
+pub above-by-cell : (m : Mark) (a b d : ℕ) (f : ℕ → ℕ) → a ≤ m .place → d ≡ slidBy m a → ltb b (f d) ≡ takesAbove a b m f
+above-by-cell m a b d f h e = rw (le-leb a (m .place) h, e) refl
 
 -- a label on the side that the test gives, as the code computes it
 pub label-above : (t : Bool) (m : Mark) (a b edge : ℕ) → t ≡ true → edge ≡ leftmostEdge m a → LabelOn (sideOf t) m a b 0 edge (edge + m .labelLength) b

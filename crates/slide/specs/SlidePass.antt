@@ -35,7 +35,8 @@ abbrev pub NoPlacing : List Mark → Type 0
 NoPlacing ms = (n : ℕ) → 1 ≤ n → Slides 0 n ms → ⊥
 
 -- a placing in the used parts of the two answer lists. Which sides is open: any will do whose leftmost edges are a placing, that is,
--- each edge is between place − length and place and no two labels of one side share more than an end point. The sides decide the edges.
+-- each edge is between place − length and place and no two labels of one side share more than an end point. The sides decide the edges,
+-- and an edge's dot decides the edge.
 pub record Placed (ms : List Mark) (before after : Lent) : Type 0 where
   pub sides : List Side
   pub one-for-each : length sides ≡ length ms

@@ -3,6 +3,9 @@ ghost use mathlib.Core.Path.{_≡_};
 ghost use Rattle.geometry.specs.Dot.{dot};
 ghost use Rattle.slide.specs.inner.Plain.{atDot};
 
+// The reach of a side without labels.
+pub const EMPTY_REACH: u16 = 1;
+
 // The dot of a coordinate.
 pub fn dot_of(place: i16) -> u16
     ensures { λ r. ⌜ r ≡ dot place ⌝ }

@@ -4,22 +4,25 @@
 use crate::dots;
 ghost use mathlib.Core.Path.{_≡_};
 ghost use mathlib.Core.Bool.{_||_};
-ghost use Prim.Native.Nat.{_+_, _-_, _*_, _≤_, _<_, max};
+ghost use Prim.Native.Nat.{_+_, _*_, _≤_, _<_, max};
 ghost use lib.Dec.{ltb, eqb};
 ghost use lib.ListN.{length, getD, drop};
 ghost use Rattle.slide.specs.inner.Plain.{plainMark, plainMarks, Checked};
-ghost use Rattle.slide.specs.inner.Room.{furthest, ownSide, otherSide, roomBefore, noBound};
+ghost use Rattle.slide.specs.inner.Room.{slidBy, furthest, ownSide, otherSide, roomBefore, noBound};
 ghost use Rattle.slide.specs.inner.Table.{rowFrom, FilledTo, TableHolds, TableFrom};
 
 // Cells of a row: a label slides by 0 to 240 dots.
-const ROW: usize = 241;
+pub const ROW: usize = 241;
 
+// The cell where every reach of the other side will do.
 const NO_BOUND: u16 = 65535;
 
-// How far a label that starts at `start` slides for a reach.
-pub fn slid(reach: u16, start: u16) -> usize
-    ensures { λ r. ⌜ r ≡ reach - start ⌝ }
+// How far a label slides from its leftmost place on a side with this reach.
+pub fn slid(place: u16, length: u8, reach: u16) -> usize
+    requires { ⌜ length < place ⌝ }
+    ensures { λ r. ⌜ r ≡ slidBy (plainMark place length) reach ⌝ }
 {
+    let start = place - length as u16;
     if reach <= start {
         return 0;
     }
@@ -49,7 +52,7 @@ fn own_side(work: &[u16], row: usize, place: u16, length: u8, reach: u16) -> u16
     if place < reach {
         return 0;
     }
-    work[row + slid(reach, place - length as u16)]
+    work[row + slid(place, length, reach)]
 }
 
 // The bound where it lies on the other side and may slide by less than `slides` dots.
@@ -74,25 +77,27 @@ fn greater(a: u16, b: u16) -> u16
 
 // The row of the last mark: whatever it does, the rest goes.
 fn fill_last(work: &mut [u16], row: usize, length: u8)
-    requires { do ⌜ (row + 241 ≤ (← ⟦work.len()⟧)) × (length ≤ 240) ⌝ }
+    requires { do ⌜ (row + 241 ≤ (← ⟦work.len()⟧)) × (1 ≤ length) × (length ≤ 240) ⌝ }
     ensures { λ r. ⌜ FilledTo (now (work .entry)) (now (work .exit)) row (length + 1) (λ d. noBound) ⌝ }
 {
-    let mut d = 0;
-    while d <= length as usize {
-        work[row + d] = NO_BOUND;
-        d += 1;
+    let last = length as usize;
+    let mut i = 0;
+    while i <= last {
+        work[row + i] = NO_BOUND;
+        i += 1;
     }
 }
 
 // The row of a mark from the row of the next one. The bounds fall as the reach grows, so each scan goes on where the last one stopped.
 fn fill_row(work: &mut [u16], row: usize, place: u16, length: u8, next_place: u16, next_length: u8)
-    requires { do ⌜ (row + 482 ≤ (← ⟦work.len()⟧)) × (length ≤ 240) × (place + length < 65535) × («next_length» ≤ 240) × («next_length» < «next_place») × («next_place» < 65535) ⌝ }
+    requires { do ⌜ (row + 482 ≤ (← ⟦work.len()⟧)) × (1 ≤ length) × (length ≤ 240) × (place + length < 65535) × («next_length» ≤ 240) × («next_length» < «next_place») × («next_place» < 65535) ⌝ }
     ensures { λ r. ⌜ FilledTo (now (work .entry)) (now (work .exit)) row (length + 1) (λ d. roomBefore (plainMark «next_place» «next_length») (place + d) (rowFrom (now (work .entry)) (row + 241))) ⌝ }
 {
     let next = row + ROW;
+    let last = length as usize;
     let mut slides = next_length as usize + 1;
     let mut d = 0;
-    while d <= length as usize {
+    while d <= last {
         let reach = place + d as u16;
         slides = furthest_slide(work, next, reach, slides);
         let own = own_side(work, next, next_place, next_length, reach);
@@ -142,5 +147,5 @@ pub fn fits(places: &[i16], work: &[u16]) -> bool
     if places.len() == 0 {
         return true;
     }
-    1 < work[0]
+    dots::EMPTY_REACH < work[0]
 }

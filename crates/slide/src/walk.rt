@@ -24,7 +24,7 @@ fn takes_above(work: &[u16], row: usize, place: u16, length: u8, above: u16, bel
     if place < above {
         return false;
     }
-    below < work[row + table::slid(above, place - length as u16)]
+    below < work[row + table::slid(place, length, above)]
 }
 
 // The left edge of a label as far left as it goes.
@@ -39,6 +39,7 @@ fn leftmost(place: u16, length: u8, reach: u16) -> u16
     reach
 }
 
+// The next label of the walk, above if it can lie there, else below.
 fn place_label(work: &[u16], row: usize, place: u16, length: u8, above: u16, below: u16) -> Label
     requires { do ⌜ StepReady (rowFrom (now work) row) (← ⟦work.len()⟧) row place length above below ⌝ }
     ensures { λ r. ⌜ LabelOn (sideOf (takesAbove above below (plainMark place length) (rowFrom (now (work .entry)) row))) (plainMark place length) above below (r .side) (r .edge) (r .above) (r .below) ⌝ }
@@ -66,13 +67,13 @@ pub fn walk(places: &[i16], lengths: &[u8], work: &[u16], sides: &mut [u8], edge
     requires { ⌜ WalkReady (now places) (now lengths) (now work) (now sides) (now edges) ⌝ }
     ensures { λ r. ⌜ Walked (now (places .entry)) (now (lengths .entry)) (now (sides .entry)) (now (sides .exit)) (now (edges .entry)) (now (edges .exit)) ⌝ }
 {
-    let mut above: u16 = 1;
-    let mut below: u16 = 1;
+    let mut above = dots::EMPTY_REACH;
+    let mut below = dots::EMPTY_REACH;
     let mut i = 0;
     while i < places.len() {
         let label = place_label(
             work,
-            i * 241,
+            i * table::ROW,
             dots::dot_of(places[i]),
             lengths[i],
             above,

@@ -8,7 +8,8 @@ use lib.IntN.{ℤ}
 use lib.ListN.{length, drop}
 use Rattle.geometry.specs.Refusal.{refusalNumber}
 use Rattle.job.specs.Outcome.{Outcome, given, refusal}
-use Rattle.job.specs.Format.{Field, Marks, JobMark}
+use Rattle.job.specs.Format.{Field}
+use Rattle.job.specs.Marks.{Marks, JobMark}
 use Rattle.job.specs.Calls.{leftAs}
 use Rattle.job.specs.Decode.{Front, Header}
 use Rattle.job.specs.inner.Place.{placeOf}

@@ -6,6 +6,7 @@ use mathlib.Core.Bool.{Bool, true, false, cond, _&&_}
 use lib.Dec.{leb, ltb}
 use lib.IntN.{ℤ}
 use lib.ListN.{length}
+use Rattle.geometry.specs.Dot.{emptyReach}
 use Rattle.geometry.specs.Mark.{Mark}
 use Rattle.geometry.specs.Position.{Side, above, below, sideCode, ownReach, aboveAfter, belowAfter}
 use Rattle.geometry.specs.Sliding.{leftmostEdge, leftmostEdges}
@@ -18,6 +19,7 @@ use Rattle.slide.specs.inner.Table.{TableHolds}
 abbrev pub takesAbove : ℕ → ℕ → Mark → (ℕ → ℕ) → Bool
 takesAbove a b m f = leb a (m .place) && ltb b (f (slidBy m a))
 
+-- above where the test holds, else below
 abbrev pub sideOf : Bool → Side
 sideOf t = cond t above below
 
@@ -25,6 +27,7 @@ sideOf t = cond t above below
 abbrev pub sideBefore : ℕ → ℕ → ℕ → Mark → List Mark → Side
 sideBefore g a b m ms = sideOf (takesAbove a b m (λ d. room g (reachAt g m d) ms))
 
+-- the sides of all marks, from the reaches a and b
 unfoldable pub sidesFrom : ℕ → ℕ → ℕ → List Mark → List Side
 sidesFrom g a b [] = []
 sidesFrom g a b (m ∷ ms) =
@@ -40,11 +43,11 @@ pub record LabelOn (s : Side) (m : Mark) (a b side edge aboveNext belowNext : �
   pub below-is : belowNext ≡ belowAfter s (reachPast 0 m (ownReach s a b)) b
 
 -- what one step of the walk asks: the row is there, the label stays within the coordinates, and where above is not taken below is free
-pub record StepReady (cells : ℕ → ℕ) (most row place length a b : ℕ) : Type 0 where
-  pub row-there : row + length < most
-  pub short : length < place
-  pub high : place + length < 65536
-  pub one-free : takesAbove a b (plainMark place length) cells ≡ false → b ≤ place
+pub record StepReady (cells : ℕ → ℕ) (most row p l a b : ℕ) : Type 0 where
+  pub row-there : row + l < most
+  pub short : l < p
+  pub high : p + l < 65536
+  pub one-free : takesAbove a b (plainMark p l) cells ≡ false → b ≤ p
 
 -- what the walk asks
 pub record WalkReady (zs : List ℤ) (ls work sides : List ℕ) (edges : List ℤ) : Type 0 where
@@ -53,10 +56,11 @@ pub record WalkReady (zs : List ℤ) (ls work sides : List ℕ) (edges : List �
   pub edges-long : length zs ≤ length edges
   pub work-long : 14460 ≤ length work
   pub table : TableHolds work (plainMarks zs ls)
-  pub fits : slideable 0 1 1 (plainMarks zs ls) ≡ true
+  pub fits : slideable 0 emptyReach emptyReach (plainMarks zs ls) ≡ true
 
+-- the sides that the walk gives a strip
 abbrev pub walkSides : List ℤ → List ℕ → List Side
-walkSides zs ls = sidesFrom 0 1 1 (plainMarks zs ls)
+walkSides zs ls = sidesFrom 0 emptyReach emptyReach (plainMarks zs ls)
 
 -- what it leaves in the answer lists
 pub record Walked (zs : List ℤ) (ls oldSides newSides : List ℕ) (oldEdges newEdges : List ℤ) : Type 0 where

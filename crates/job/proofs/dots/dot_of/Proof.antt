@@ -1,9 +1,9 @@
 -- `job::dots::dot_of` meets its contract: in 32 bits the sum is the signed one, and it is not negative.
-use mathlib.Core.Path.{_≡_, refl, sym, _∙_, ap}
-use Prim.Native.Nat.{ℕ, _<_}
+use mathlib.Core.Path.{_≡_, refl}
+use Prim.Native.Nat.{_<_}
 use native.Mathlib.Omega.{arith}
 use mir.Syntax.{w16, w32}
-use mir.Val.{SFits, Fits, toZ, ofZ}
+use mir.Val.{toZ, ofZ}
 use lib.IntN.{ℤ, pos, _+ℤ_}
 use lib.Signed.{mag}
 use Rattle.geometry.specs.Dot.{dot}

@@ -1,5 +1,5 @@
 -- `job::dots::dot_of_word` meets its contract: a word below 32,768 is a place from 0 on, another a negative one.
-use mathlib.Core.Path.{_≡_, refl, sym, _∙_, ap}
+use mathlib.Core.Path.{sym, _∙_, ap}
 use borrow.Author.Needs.{needs}
 use native.Mathlib.Omega.{arith}
 use lib.IntN.{pos, negsuc}

@@ -1,12 +1,12 @@
 -- `job::dots::place_of` meets its contract: in 32 bits the difference is the signed one, and it fits 16 bits.
-use mathlib.Core.Path.{_≡_, refl, sym, _∙_, ap}
-use Prim.Native.Nat.{ℕ, _<_}
+use mathlib.Core.Path.{_≡_}
+use Prim.Native.Nat.{_<_}
 use borrow.Author.Needs.{needs}
 use native.Mathlib.Omega.{arith}
-use mir.Syntax.{w16, w32}
-use mir.Val.{SFits, toZ, ofZ}
+use mir.Syntax.{w32}
+use mir.Val.{toZ}
 use mir.ValLaws.{toZ-pos}
-use lib.IntN.{ℤ, pos, _-ℤ_}
+use lib.IntN.{pos, _-ℤ_}
 use lib.Signed.{mag}
 use Rattle.geometry.proofs.Dots.{held, fetched}
 use Rattle.job.specs.inner.Place.{placeOf}

@@ -1,5 +1,5 @@
 -- `job::dots::word_of_dot` meets its contract: a dot below 32,768 is that of a negative place.
-use mathlib.Core.Path.{_≡_, refl, sym, _∙_, ap}
+use mathlib.Core.Path.{refl}
 use borrow.Author.Needs.{needs}
 use native.Mathlib.Omega.{arith}
 use Rattle.job.specs.Number.{wordOf}

@@ -1,6 +1,5 @@
 -- `job::field::number_at` meets its contract: the bytes that it reads are the first of those from the position on.
-use mathlib.Core.Path.{_≡_, refl, sym, _∙_, ap}
-use Prim.Native.Nat.{ℕ, _+_, _*_}
+use mathlib.Core.Path.{_≡_, sym, _∙_}
 use native.Mathlib.Omega.{arith}
 use Rattle.job.proofs.Numbers.{number-of-one, number-of-two}
 use borrow.Author.Needs.{needs}
@@ -14,16 +13,15 @@ wide-requires : tie.Need-wide-requires
 wide-requires c κs = search needs
 
 returns : tie.Need-returns
-returns c = c .wide .ensures .0 ∙ sym (rw (c .before .before .if1 .taken) (number-of-one (c .before .before .before .before .args .job .now) (c .before .before .before .before .args .at) (omega arith)))
+returns c =
+    let s = c .before .before .before .before in
+    c .wide .ensures .0 ∙ sym (rw (c .before .before .if1 .taken) (number-of-one (s .args .job .now) (s .args .at) (omega arith)))
 
 shared-slice-read-wide-2 : tie.Need-shared-slice-read-wide-2
 shared-slice-read-wide-2 c = search needs
 
 wide-requires-2 : tie.Need-wide-requires-2
 wide-requires-2 c κs = search needs
-
-mul-result : tie.Need-mul-result
-mul-result c = search needs
 
 add-wide : tie.Need-add-wide
 add-wide c = search needs
@@ -34,13 +32,17 @@ shared-slice-read-wide-3 c = search needs
 wide-requires-3 : tie.Need-wide-requires-3
 wide-requires-3 c κs = search needs
 
+mul-result : tie.Need-mul-result
+mul-result c = search needs
+
 add-result : tie.Need-add-result
 add-result c = search needs
 
 returns-2 : tie.Need-returns-2
 returns-2 c =
-    let e : c .before .before .before .before .before .before .args .width ≡ 2 = omega arith in
-    rw (e, number-of-two (c .before .before .before .before .before .before .args .job .now) (c .before .before .before .before .before .before .args .at) (omega arith)) (rw (c .before .before .wide2 .ensures .0, c .wide3 .ensures .0) refl)
+    let s = c .before .before .before .before .before .before in
+    let e : s .args .width ≡ 2 = omega arith in
+    rw e (omega (arith, number-of-two (s .args .job .now) (s .args .at) (omega arith)))
 
 pub number-at-spec : {M : Type 1} → statement M
 number-at-spec =
@@ -51,9 +53,9 @@ number-at-spec =
     returns
     shared-slice-read-wide-2
     wide-requires-2
-    mul-result
     add-wide
     shared-slice-read-wide-3
     wide-requires-3
+    mul-result
     add-result
     returns-2)

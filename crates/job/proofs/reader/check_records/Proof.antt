@@ -1,14 +1,12 @@
 -- `job::reader::check_records` meets its contract: the answer for all records is that for the records that are left.
 use mathlib.Core.Path.{_≡_, refl, sym, _∙_, ap}
-use mathlib.Core.Bool.{Bool, true, false}
-use mathlib.Core.List.{List}
-use Prim.Native.Nat.{ℕ, _+_, _-_, _≤_, _<_}
+use mathlib.Core.Bool.{true}
+use Prim.Native.Nat.{_-_, _≤_}
 use native.Mathlib.Omega.{arith}
 use lib.Dec.{eqb}
 use lib.ListN.{length, drop}
 use Rattle.geometry.specs.Refusal.{numberOf}
-use Rattle.job.specs.Outcome.{Outcome, verdictOf}
-use Rattle.job.specs.Format.{Marks}
+use Rattle.job.specs.Outcome.{verdictOf}
 use Rattle.job.specs.Decode.{decodeRecords}
 use Rattle.job.specs.inner.Place.{placeOf}
 use Rattle.job.proofs.Turns.{leftAt, turn-refused, read-good, turn-verdict, records-over, records-left-over}

@@ -1,23 +1,19 @@
 -- `job::reader::fill` meets its contract: what is stored and what is still to be stored are together the marks of all records.
-use mathlib.Core.Path.{_≡_, refl, sym, _∙_, ap}
-use mathlib.Core.Bool.{Bool, true, false}
-use mathlib.Core.List.{List, [], _∷_}
-use Prim.Native.Nat.{ℕ, _+_, _-_, _≤_, _<_}
+use mathlib.Core.Path.{_≡_, refl, _∙_}
+use mathlib.Core.Bool.{true}
+use Prim.Native.Nat.{_-_, _≤_, _<_}
 use native.Mathlib.Omega.{arith}
 use lib.Dec.{eqb}
-use lib.IntN.{ℤ}
-use lib.ListN.{length, drop, set, length-set}
+use lib.ListN.{length, drop, length-set}
 use lib.Seq.{sets}
 use Rattle.geometry.specs.Refusal.{accepted}
-use Rattle.job.specs.Outcome.{Outcome, verdictOf}
-use Rattle.job.specs.Format.{Marks, noMarks, consMark}
+use Rattle.job.specs.Outcome.{verdictOf}
 use Rattle.job.specs.Decode.{decodeRecords}
 use Rattle.job.specs.inner.Place.{placeOf}
 use Rattle.geometry.proofs.Dots.{fetched}
-use Rattle.job.proofs.Outcomes.{IsGiven}
 use Rattle.job.proofs.Places.{place-mag}
 use Rattle.job.proofs.Turns.{leftAt}
-use Rattle.job.proofs.Stores.{store-one, marksIn, turn-given, still-accepted, next-place, next-length, next-weight, all-stored, accepted-count}
+use Rattle.job.proofs.Stores.{store-one, marksIn, Turn, turn, all-stored, accepted-count}
 use Rattle.job.proofs.reader.fill.Statement.{statement}
 use Rattle.job.proofs.reader.fill.Tie as tie
 
@@ -37,6 +33,12 @@ Inv-loop job count first places₀ lengths₀ weights₀ at₀ dot₀ i₀ place
 abbrev μ-loop : tie.MeasureT-loop
 μ-loop job count first places₀ lengths₀ weights₀ at₀ dot₀ i₀ places lengths weights at dot i = count - i
 
+next : (q : tie.After-read-record Inv-loop μ-loop) → Turn (q .before .before .before .before .before .before .args .job .now) (q .before .before .before .before .before .before .args .count) (q .before .before .loop .at) (q .before .before .loop .dot) (q .before .before .loop .i) (q .read-record .result)
+next q =
+    let a = q .before .before in
+    let s = a .before .before .before .before in
+    turn (s .args .job .now) (s .args .count) (a .loop .at) (a .loop .dot) (a .loop .i) (q .before .loop-test .taken) (q .read-record .result) (q .read-record .ensures) (a .loop .inv .6)
+
 loop-holds : tie.Need-loop-holds Inv-loop μ-loop
 loop-holds c =
     let e : c .before .before .before .args .count - 0 ≡ c .before .before .before .args .count = omega arith in
@@ -46,7 +48,7 @@ read-record-requires : tie.Need-read-record-requires Inv-loop μ-loop
 read-record-requires c κs = omega arith
 
 place-of-requires : tie.Need-place-of-requires Inv-loop μ-loop
-place-of-requires c κs = omega (arith, turn-given (c .before .before .before .before .before .before .args .job .now) (c .before .before .before .before .before .before .args .count) (c .before .before .loop .at) (c .before .before .loop .dot) (c .before .before .loop .i) (c .before .loop-test .taken) (c .read-record .result) (c .read-record .ensures) (c .before .before .loop .inv .6) .holds .high)
+place-of-requires c κs = omega (arith, next c .high)
 
 mul-t13 : tie.Need-mul-t13 Inv-loop μ-loop
 mul-t13 c = omega arith
@@ -73,18 +75,17 @@ loop-again : tie.Need-loop-again Inv-loop μ-loop
 loop-again c =
     let q = c .before in
     let a = q .before .before in
-    let g = turn-given (q .before .before .before .before .before .before .args .job .now) (q .before .before .before .before .before .before .args .count) (q .before .before .loop .at) (q .before .before .loop .dot) (q .before .before .loop .i) (q .before .loop-test .taken) (q .read-record .result) (q .read-record .ensures) (q .before .before .loop .inv .6) .holds in
-    let small : q .read-record .result .dot < 65536 = omega (arith, g .high) in (
+    let small : q .read-record .result .dot < 65536 = omega (arith, next q .high) in (
       omega arith,
-      g .within,
-      g .high,
+      next q .within,
+      next q .high,
       simp length-set (a .loop .inv .3),
       simp length-set (a .loop .inv .4),
       simp length-set (a .loop .inv .5),
-      still-accepted (q .before .before .before .before .before .before .args .job .now) (q .before .before .before .before .before .before .args .count) (q .before .before .loop .at) (q .before .before .loop .dot) (q .before .before .loop .i) (q .before .loop-test .taken) (q .read-record .result) (q .read-record .ensures) (q .before .before .loop .inv .6),
-      rw (c .place-of .ensures, fetched (placeOf (q .read-record .result .dot)) (place-mag (q .read-record .result .dot) small)) (a .loop .inv .7 ∙ store-one _ _ _ _ _ (next-place (q .before .before .before .before .before .before .args .job .now) (q .before .before .before .before .before .before .args .count) (q .before .before .loop .at) (q .before .before .loop .dot) (q .before .before .loop .i) (q .before .loop-test .taken) (q .read-record .result) (q .read-record .ensures) (q .before .before .loop .inv .6))),
-      a .loop .inv .8 ∙ store-one _ _ _ _ _ (next-length (q .before .before .before .before .before .before .args .job .now) (q .before .before .before .before .before .before .args .count) (q .before .before .loop .at) (q .before .before .loop .dot) (q .before .before .loop .i) (q .before .loop-test .taken) (q .read-record .result) (q .read-record .ensures) (q .before .before .loop .inv .6)),
-      a .loop .inv .9 ∙ store-one _ _ _ _ _ (next-weight (q .before .before .before .before .before .before .args .job .now) (q .before .before .before .before .before .before .args .count) (q .before .before .loop .at) (q .before .before .loop .dot) (q .before .before .loop .i) (q .before .loop-test .taken) (q .read-record .result) (q .read-record .ensures) (q .before .before .loop .inv .6)),
+      next q .still-accepted,
+      rw (c .place-of .ensures, fetched (placeOf (q .read-record .result .dot)) (place-mag (q .read-record .result .dot) small)) (a .loop .inv .7 ∙ store-one _ _ _ _ _ (next q .next-place)),
+      a .loop .inv .8 ∙ store-one _ _ _ _ _ (next q .next-length),
+      a .loop .inv .9 ∙ store-one _ _ _ _ _ (next q .next-weight),
     )
 
 same-length : tie.Need-same-length Inv-loop μ-loop

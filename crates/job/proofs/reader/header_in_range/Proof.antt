@@ -1,6 +1,5 @@
 -- `job::reader::header_in_range` meets its contract: the first test that fails decides, or the last one does.
-use mathlib.Core.Path.{_≡_, refl, sym, _∙_, ap}
-use mathlib.Core.Bool.{Bool, true, false, not, _&&_, _||_}
+use mathlib.Core.Path.{refl, sym}
 use borrow.Author.Tests.{le-leb, lt-leb, eq-eqb, ne-eqb}
 use Rattle.job.proofs.Places.{place-fits, place-too-low, place-too-high, zero-place}
 use Rattle.job.proofs.reader.header_in_range.Statement.{statement}

@@ -1,20 +1,17 @@
 -- `job::reader::read` meets its contract: each return stands at the first check that is not passed, and the lists are filled last.
-use mathlib.Core.Path.{_≡_, refl, sym, _∙_, ap}
+use mathlib.Core.Path.{_≡_, sym, _∙_}
 use mathlib.Core.Bool.{true}
-use mathlib.Core.List.{List}
-use Prim.Native.Nat.{ℕ, min, _≤_, _<_}
+use Prim.Native.Nat.{ℕ, min, _<_}
 use native.Mathlib.Omega.{arith}
-use lib.IntN.{ℤ}
 use lib.ListN.{length, drop}
 use Rattle.geometry.specs.Refusal.{accepted}
 use Rattle.geometry.proofs.Verdicts.{zero-accepted}
 use Rattle.job.specs.Outcome.{Outcome, verdictOf}
-use Rattle.job.specs.Format.{Marks}
-use Rattle.job.specs.Decode.{decodeHeader, decodeRecords, decode}
-use Rattle.job.specs.Calls.{ReadCall}
+use Rattle.job.specs.Marks.{Marks}
+use Rattle.job.specs.Decode.{decodeRecords, decode}
 use Rattle.job.specs.inner.Place.{placeOf}
 use Rattle.job.specs.inner.Step.{HeaderAt}
-use Rattle.job.proofs.Outcomes.{IsRefused, IsGiven}
+use Rattle.job.proofs.Outcomes.{IsRefused}
 use Rattle.job.proofs.Reading.{header-refused, header-given, lists-short, to-records, number-refused, refused-read, accepted-read}
 use borrow.Author.Needs.{needs}
 use Rattle.job.proofs.reader.read.Statement.{statement}

@@ -1,11 +1,9 @@
 -- `job::reader::read_header` meets its contract: each return stands at the first check that is not passed.
 use mathlib.Core.Path.{_≡_, refl, sym, _∙_, ap}
 use mathlib.Core.Bool.{Bool, true, false}
-use Prim.Native.Nat.{ℕ, _≤_, _<_}
 use native.Mathlib.Omega.{arith}
 use borrow.Author.Needs.{needs}
 use borrow.Author.Tests.{not-true, not-false}
-use lib.ListN.{length}
 use Rattle.job.specs.Number.{signed}
 use Rattle.job.specs.Decode.{headerCount, headerPlace}
 use Rattle.job.specs.inner.Place.{placeOf}
@@ -24,7 +22,7 @@ fits : (c : tie.After-header-in-range) (t : Bool) → c .header-in-range .result
 fits c t e = sym (c .header-in-range .ensures) ∙ e
 
 returns : tie.Need-returns
-returns c = rw (header-short _ (c .if1 .taken)) refl
+returns c = rw (header-short (c .before .before .args .job .now) (omega arith)) refl
 
 number-at-requires : tie.Need-number-at-requires
 number-at-requires c κs = search needs

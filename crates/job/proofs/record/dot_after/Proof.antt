@@ -1,5 +1,5 @@
 -- `job::record::dot_after` meets its contract: a step after a place is the same number of dots after its dot.
-use mathlib.Core.Path.{_≡_, refl, sym, _∙_, ap}
+use mathlib.Core.Path.{refl}
 use borrow.Author.Needs.{needs}
 use native.Mathlib.Omega.{arith}
 use Rattle.job.proofs.Places.{place-step}

@@ -1,6 +1,5 @@
 -- `job::record::has_stray_bit` meets its contract: a bit of 3 to 7 stands in a byte exactly if it is 8 or more.
-use mathlib.Core.Path.{_≡_, refl, sym, _∙_, ap}
-use mathlib.Core.Bool.{Bool, true, false, _&&_, _||_}
+use mathlib.Core.Path.{refl}
 use native.Mathlib.Omega.{arith}
 use Rattle.job.proofs.Maps.{no-stray, some-stray, lowest-bit}
 use Rattle.job.proofs.record.has_stray_bit.Statement.{statement}

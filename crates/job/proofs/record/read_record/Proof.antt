@@ -1,17 +1,17 @@
 -- `job::record::read_record` meets its contract: each return stands at the first check that is not passed.
-use mathlib.Core.Path.{_≡_, refl, sym, _∙_, ap}
-use mathlib.Core.Bool.{Bool, true, false, _&&_, _||_}
-use mathlib.Core.List.{List, [], _∷_}
-use Prim.Native.Nat.{ℕ, _+_, _≤_, _<_}
+use mathlib.Core.Path.{_≡_, sym, _∙_}
+use mathlib.Core.Bool.{false, _&&_, _||_}
+use mathlib.Core.List.{List, _∷_}
+use Prim.Native.Nat.{ℕ, _+_}
 use native.Mathlib.Numerals.{add-one}
 use native.Mathlib.Omega.{arith}
-use lib.ListN.{length, getD, drop, drop-of-length-le}
+use lib.ListN.{getD, drop, drop-of-length-le}
 use lib.Seq.{drop-cons}
 use Rattle.job.specs.Format.{stepField, lengthField, weightField, bitStands, strayBits}
-use Rattle.job.specs.Decode.{Front, decodeField, placeAfter, decodeRecord}
+use Rattle.job.specs.Decode.{decodeField, decodeRecord}
 use Rattle.job.specs.inner.Place.{placeOf}
 use Rattle.job.specs.inner.Step.{Says, FieldAt, RecordAt}
-use Rattle.job.proofs.Outcomes.{IsRefused, IsGiven, says-given, passed-on}
+use Rattle.job.proofs.Outcomes.{IsGiven, says-given, passed-on}
 use Rattle.job.proofs.Fields.{row-step, row-length, row-weight}
 use Rattle.job.proofs.Records.{record-stray, step-refused, far-refused, length-refused, weight-refused, record-read}
 use borrow.Author.Needs.{needs}

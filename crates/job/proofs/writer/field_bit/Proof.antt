@@ -1,5 +1,5 @@
 -- `job::writer::field_bit` meets its contract.
-use mathlib.Core.Path.{_≡_, refl, sym, _∙_, ap}
+use mathlib.Core.Path.{refl}
 use native.Mathlib.Omega.{arith}
 use borrow.Author.Tests.{eq-eqb, ne-eqb}
 use Rattle.job.proofs.writer.field_bit.Statement.{statement}

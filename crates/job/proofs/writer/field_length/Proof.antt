@@ -1,5 +1,5 @@
 -- `job::writer::field_length` meets its contract.
-use mathlib.Core.Path.{_≡_, refl, sym, _∙_, ap}
+use mathlib.Core.Path.{refl, sym}
 use native.Mathlib.Omega.{arith}
 use Rattle.job.specs.inner.Step.{row}
 use Rattle.job.proofs.Numbers.{bytes-length}

@@ -1,13 +1,10 @@
 -- `job::writer::first_dot` meets its contract.
-use mathlib.Core.Path.{_≡_, refl, sym, _∙_, ap}
-use mathlib.Core.List.{List, [], _∷_}
-use Prim.Native.Nat.{ℕ, _≤_, _<_}
+use mathlib.Core.Path.{_≡_, sym, _∙_, ap}
 use native.Mathlib.Omega.{arith}
-use lib.IntN.{ℤ, pos}
-use lib.ListN.{length, getD}
+use lib.IntN.{pos}
+use lib.ListN.{getD}
 use Rattle.geometry.specs.Dot.{dot}
 use Rattle.geometry.proofs.Dots.{fetched}
-use Rattle.job.specs.Encode.{firstPlace}
 use Rattle.job.specs.inner.Place.{placeOf}
 use Rattle.job.proofs.Places.{place-high, place-of-dot, dot-small}
 use Rattle.job.proofs.Encoding.{first-none, first-is}

@@ -1,18 +1,17 @@
 -- `job::writer::job_length` meets its contract: the length so far and that of the records that are left are together the whole.
-use mathlib.Core.Path.{_≡_, refl, sym, _∙_, ap}
-use mathlib.Core.Bool.{Bool, true}
-use mathlib.Core.List.{List, [], _∷_, _++_}
-use Prim.Native.Nat.{ℕ, _+_, _-_, _*_, _≤_, _<_}
+use mathlib.Core.Path.{_≡_, sym, _∙_, ap}
+use mathlib.Core.List.{List, _++_}
+use Prim.Native.Nat.{ℕ, _+_, _-_, _*_, _≤_}
 use native.Mathlib.Omega.{arith}
 use borrow.Author.Needs.{needs}
 use lib.Dec.{eqb}
 use lib.IntN.{ℤ, pos}
-use lib.ListN.{length, getD, drop, length-append}
+use lib.ListN.{length, getD, drop}
 use Rattle.geometry.specs.Dot.{dot}
 use Rattle.geometry.proofs.Dots.{fetched}
-use Rattle.job.specs.Encode.{encodeRecord, stepTo, encodeRecords, firstPlace, encode}
+use Rattle.job.specs.Encode.{encode}
 use Rattle.job.specs.inner.Place.{placeOf}
-use Rattle.job.specs.inner.Writable.{GoodMark, Writable}
+use Rattle.job.specs.inner.Writable.{Writable}
 use Rattle.job.proofs.Places.{place-of-dot}
 use Rattle.job.proofs.Encoding.{recordsFrom, recordOf, encode-turn, writable-turn, encode-over, encode-size, size-turn, nothing-left}
 use Rattle.job.proofs.writer.job_length.Statement.{statement}
@@ -47,6 +46,22 @@ here c =
     let z = getD (placesOf a) (a .loop .i) (pos 0) in
     let m = c .before .dot-of-arg .given in
     sym (ap placeOf (c .dot-of .ensures ∙ ap dot (fetched z m)) ∙ place-of-dot z m)
+
+-- the records that are left, that of the mark, and those after it
+abbrev leftOf : tie.At-loop Inv-loop μ-loop → List ℕ
+leftOf a = recordsFrom (placesOf a) (lengthsOf a) (weightsOf a) (a .loop .before) (a .loop .i)
+
+abbrev own : tie.At-loop Inv-loop μ-loop → ℕ → List ℕ
+own a step = recordOf (lengthsOf a) (weightsOf a) (a .loop .i) step
+
+abbrev others : tie.At-loop Inv-loop μ-loop → ℕ → List ℕ
+others a d = recordsFrom (placesOf a) (lengthsOf a) (weightsOf a) d (a .loop .i + 1)
+
+splits : (c : tie.After-step-to Inv-loop μ-loop) → leftOf (c .before .before .before .before) ≡ own (c .before .before .before .before) (c .step-to .result) ++ others (c .before .before .before .before) (c .before .dot-of .result)
+splits c =
+    let q = c .before in
+    let a = q .before .before .before in
+    encode-turn (placesOf a) (lengthsOf a) (weightsOf a) (a .loop .before) (q .dot-of .result) (a .loop .i) (omega arith) (omega arith) (omega arith) (here q) (c .step-to .result) (c .step-to .ensures)
 
 first-dot-requires : tie.Need-first-dot-requires Inv-loop μ-loop
 first-dot-requires c κs = search needs
@@ -94,20 +109,20 @@ loop-less c = omega arith
 
 loop-again : tie.Need-loop-again Inv-loop μ-loop
 loop-again c =
-    let q = c .before .before .before .before in
-    let a = q .before .before .before in
-    let step = c .before .before .before .step-to in (
+    let t = c .before .before .before in
+    let q = t .before in
+    let a = q .before .before .before in (
       omega arith,
       omega arith,
       writable-turn (placesOf a) (lengthsOf a) (weightsOf a) (a .loop .before) (q .dot-of .result) (a .loop .i) (omega arith) (omega arith) (omega arith) (here q) (a .loop .inv .2) .1,
-      size-turn (recordsFrom (placesOf a) (lengthsOf a) (weightsOf a) (a .loop .before) (a .loop .i)) (recordOf (lengthsOf a) (weightsOf a) (a .loop .i) (step .result)) (recordsFrom (placesOf a) (lengthsOf a) (weightsOf a) (q .dot-of .result) (a .loop .i + 1)) (encode-turn (placesOf a) (lengthsOf a) (weightsOf a) (a .loop .before) (q .dot-of .result) (a .loop .i) (omega arith) (omega arith) (omega arith) (here q) (step .result) (step .ensures)) (length (encode (placesOf a) (lengthsOf a) (weightsOf a))) (a .loop .total) (c .record-length .result) (a .loop .inv .3) (c .record-length .ensures .0),
+      size-turn (leftOf a) (own a (t .step-to .result)) (others a (q .dot-of .result)) (splits t) (length (encode (placesOf a) (lengthsOf a) (weightsOf a))) (a .loop .total) (c .record-length .result) (a .loop .inv .3) (c .record-length .ensures .0),
     )
 
 returns : tie.Need-returns Inv-loop μ-loop
 returns c =
     let a = c .before in
     let e : a .loop .i ≡ length (placesOf a) = omega arith in
-    sym (a .loop .inv .3 ∙ nothing-left (a .loop .total) (recordsFrom (placesOf a) (lengthsOf a) (weightsOf a) (a .loop .before) (a .loop .i)) (encode-over (placesOf a) (lengthsOf a) (weightsOf a) (a .loop .before) (a .loop .i) e))
+    sym (a .loop .inv .3 ∙ nothing-left (a .loop .total) (leftOf a) (encode-over (placesOf a) (lengthsOf a) (weightsOf a) (a .loop .before) (a .loop .i) e))
 
 pub job-length-spec : {M : Type 1} → statement M
 job-length-spec =

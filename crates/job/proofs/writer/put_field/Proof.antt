@@ -1,5 +1,5 @@
 -- `job::writer::put_field` meets its contract: nothing is put for the absent value, and else the field's bytes.
-use mathlib.Core.Path.{_≡_, refl, sym, _∙_, ap}
+use mathlib.Core.Path.{_≡_, refl, sym, ap}
 use Prim.Native.Nat.{ℕ, _+_}
 use native.Mathlib.Omega.{arith}
 use lib.ListN.{length}

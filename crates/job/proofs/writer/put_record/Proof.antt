@@ -1,10 +1,8 @@
 -- `job::writer::put_record` meets its contract: the map byte and the three fields are put one after the other.
-use mathlib.Core.Path.{_≡_, refl, sym, _∙_, ap}
+use mathlib.Core.Path.{_≡_}
 use mathlib.Core.List.{List, [], _∷_, _++_}
-use mathlib.Core.Bool.{cond}
 use Prim.Native.Nat.{ℕ, _+_}
 use native.Mathlib.Omega.{arith}
-use lib.Dec.{eqb}
 use lib.ListN.{length, set, length-set, length-append}
 use Rattle.job.specs.Encode.{encodeField, encodeRecord}
 use Rattle.job.specs.inner.Step.{row}

@@ -1,20 +1,19 @@
 -- `job::writer::put_records` meets its contract: what is put so far and the records that are left are together the whole.
 use mathlib.Core.Path.{_≡_, refl, sym, _∙_, ap}
-use mathlib.Core.Bool.{Bool, true}
-use mathlib.Core.List.{List, [], _∷_, _++_}
-use Prim.Native.Nat.{ℕ, _+_, _-_, _*_, _≤_, _<_}
+use mathlib.Core.Bool.{true}
+use mathlib.Core.List.{List, _++_}
+use Prim.Native.Nat.{ℕ, _+_, _-_, _≤_}
 use native.Mathlib.Omega.{arith}
 use borrow.Author.Needs.{needs}
 use lib.Dec.{eqb}
 use lib.IntN.{ℤ, pos}
-use lib.ListN.{length, getD, drop, length-append}
+use lib.ListN.{length, getD, drop}
 use lib.Seq.{sets}
 use Rattle.geometry.specs.Dot.{dot}
 use Rattle.geometry.proofs.Dots.{fetched}
-use Rattle.job.specs.Encode.{encodeRecord, stepTo, encodeRecords, firstPlace, encode}
+use Rattle.job.specs.Encode.{encodeRecords, firstPlace}
 use Rattle.job.specs.inner.Place.{placeOf}
-use Rattle.job.specs.inner.Writable.{GoodMark, Writable}
-use Rattle.job.specs.inner.Put.{PutAt}
+use Rattle.job.specs.inner.Writable.{Writable}
 use Rattle.job.proofs.Places.{place-of-dot}
 use Rattle.job.proofs.Encoding.{recordsFrom, recordOf, encode-turn, writable-turn, encode-over, put-length, room-turn, put-turn, room-left}
 use Rattle.job.proofs.writer.put_records.Statement.{statement}
@@ -51,6 +50,22 @@ here c =
     let m = c .before .dot-of-arg .given in
     sym (ap placeOf (c .dot-of .ensures ∙ ap dot (fetched z m)) ∙ place-of-dot z m)
 
+-- the records that are left, that of the mark, and those after it
+abbrev leftOf : tie.At-loop Inv-loop μ-loop → List ℕ
+leftOf a = recordsFrom (placesOf a) (lengthsOf a) (weightsOf a) (a .loop .before) (a .loop .i)
+
+abbrev own : tie.At-loop Inv-loop μ-loop → ℕ → List ℕ
+own a step = recordOf (lengthsOf a) (weightsOf a) (a .loop .i) step
+
+abbrev others : tie.At-loop Inv-loop μ-loop → ℕ → List ℕ
+others a d = recordsFrom (placesOf a) (lengthsOf a) (weightsOf a) d (a .loop .i + 1)
+
+splits : (c : tie.After-step-to Inv-loop μ-loop) → leftOf (c .before .before .before .before .before) ≡ own (c .before .before .before .before .before) (c .step-to .result) ++ others (c .before .before .before .before .before) (c .before .before .dot-of .result)
+splits c =
+    let q = c .before .before in
+    let a = q .before .before .before in
+    encode-turn (placesOf a) (lengthsOf a) (weightsOf a) (a .loop .before) (q .dot-of .result) (a .loop .i) (omega arith) (omega arith) (omega arith) (here q) (c .step-to .result) (c .step-to .ensures)
+
 first-dot-requires : tie.Need-first-dot-requires Inv-loop μ-loop
 first-dot-requires c κs = search needs
 
@@ -85,10 +100,10 @@ shared-slice-read-put-record-2 c = omega arith
 
 put-record-requires : tie.Need-put-record-requires Inv-loop μ-loop
 put-record-requires c κs =
-    let q = c .before .before .before .before in
+    let t = c .before .before in
+    let q = t .before .before in
     let a = q .before .before .before in
-    let step = c .before .before .step-to in
-    omega (arith, a .loop .inv .1, room-turn (recordsFrom (placesOf a) (lengthsOf a) (weightsOf a) (a .loop .before) (a .loop .i)) (recordOf (lengthsOf a) (weightsOf a) (a .loop .i) (step .result)) (recordsFrom (placesOf a) (lengthsOf a) (weightsOf a) (q .dot-of .result) (a .loop .i + 1)) (encode-turn (placesOf a) (lengthsOf a) (weightsOf a) (a .loop .before) (q .dot-of .result) (a .loop .i) (omega arith) (omega arith) (omega arith) (here q) (step .result) (step .ensures)) (a .loop .at) (length (start a .args .job .now)) (a .loop .inv .3))
+    omega (arith, a .loop .inv .1, room-turn (leftOf a) (own a (t .step-to .result)) (others a (q .dot-of .result)) (splits t) (a .loop .at) (length (start a .args .job .now)) (a .loop .inv .3))
 
 add-i : tie.Need-add-i Inv-loop μ-loop
 add-i c = omega arith
@@ -99,14 +114,14 @@ loop-less c = omega arith
 loop-again : tie.Need-loop-again Inv-loop μ-loop
 loop-again c =
     let p = c .before .before in
-    let q = p .before .before .before .before .before in
-    let a = q .before .before .before in
-    let step = p .before .before .before .step-to in (
+    let t = p .before .before .before in
+    let q = t .before .before in
+    let a = q .before .before .before in (
       omega arith,
-      put-length (a .loop .job) (recordOf (lengthsOf a) (weightsOf a) (a .loop .i) (step .result)) (p .put-record .last .0) (a .loop .at) (p .put-record .result) (p .put-record .ensures) ∙ a .loop .inv .1,
+      put-length (a .loop .job) (own a (t .step-to .result)) (p .put-record .last .0) (a .loop .at) (p .put-record .result) (p .put-record .ensures) ∙ a .loop .inv .1,
       writable-turn (placesOf a) (lengthsOf a) (weightsOf a) (a .loop .before) (q .dot-of .result) (a .loop .i) (omega arith) (omega arith) (omega arith) (here q) (a .loop .inv .2) .1,
-      room-left (recordsFrom (placesOf a) (lengthsOf a) (weightsOf a) (a .loop .before) (a .loop .i)) (recordOf (lengthsOf a) (weightsOf a) (a .loop .i) (step .result)) (recordsFrom (placesOf a) (lengthsOf a) (weightsOf a) (q .dot-of .result) (a .loop .i + 1)) (encode-turn (placesOf a) (lengthsOf a) (weightsOf a) (a .loop .before) (q .dot-of .result) (a .loop .i) (omega arith) (omega arith) (omega arith) (here q) (step .result) (step .ensures)) (a .loop .job) (p .put-record .last .0) (a .loop .at) (p .put-record .result) (length (start a .args .job .now)) (p .put-record .ensures) (a .loop .inv .3),
-      a .loop .inv .4 ∙ put-turn (recordsFrom (placesOf a) (lengthsOf a) (weightsOf a) (a .loop .before) (a .loop .i)) (recordOf (lengthsOf a) (weightsOf a) (a .loop .i) (step .result)) (recordsFrom (placesOf a) (lengthsOf a) (weightsOf a) (q .dot-of .result) (a .loop .i + 1)) (encode-turn (placesOf a) (lengthsOf a) (weightsOf a) (a .loop .before) (q .dot-of .result) (a .loop .i) (omega arith) (omega arith) (omega arith) (here q) (step .result) (step .ensures)) (a .loop .job) (p .put-record .last .0) (a .loop .at) (p .put-record .result) (p .put-record .ensures),
+      room-left (leftOf a) (own a (t .step-to .result)) (others a (q .dot-of .result)) (splits t) (a .loop .job) (p .put-record .last .0) (a .loop .at) (p .put-record .result) (length (start a .args .job .now)) (p .put-record .ensures) (a .loop .inv .3),
+      a .loop .inv .4 ∙ put-turn (leftOf a) (own a (t .step-to .result)) (others a (q .dot-of .result)) (splits t) (a .loop .job) (p .put-record .last .0) (a .loop .at) (p .put-record .result) (p .put-record .ensures),
     )
 
 same-length : tie.Need-same-length Inv-loop μ-loop

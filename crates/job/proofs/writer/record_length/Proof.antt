@@ -1,5 +1,4 @@
 -- `job::writer::record_length` meets its contract: the map byte and the three fields.
-use mathlib.Core.Path.{_≡_, refl, sym, _∙_, ap}
 use native.Mathlib.Omega.{arith}
 use Rattle.job.proofs.Encoding.{record-size}
 use borrow.Author.Needs.{needs}

@@ -1,12 +1,10 @@
 -- `job::writer::step_to` meets its contract: a difference of dots is that of their places.
-use mathlib.Core.Path.{_≡_, refl, sym, _∙_, ap}
+use mathlib.Core.Path.{refl}
 use native.Mathlib.Omega.{arith}
 use Rattle.geometry.specs.Dot.{dot}
 use Prim.Native.Nat.{_<_}
 use Rattle.job.specs.inner.Place.{placeOf}
-use Rattle.job.specs.inner.Writable.{Follows}
 use Rattle.job.proofs.Places.{dot-of-place}
-use borrow.Author.Needs.{needs}
 use Rattle.job.proofs.writer.step_to.Statement.{statement}
 use Rattle.job.proofs.writer.step_to.Tie as tie
 

@@ -1,12 +1,11 @@
 -- `job::writer::write` meets its contract: each return stands at the first check that is not passed, and the bytes are put last.
-use mathlib.Core.Path.{_≡_, refl, sym, _∙_, ap}
+use mathlib.Core.Path.{_≡_, sym, _∙_, ap}
 use mathlib.Core.Bool.{true}
 use mathlib.Core.List.{List}
-use Prim.Native.Nat.{ℕ, _+_, _≤_, _<_}
+use Prim.Native.Nat.{ℕ, _+_, _≤_}
 use native.Mathlib.Omega.{arith}
-use lib.IntN.{ℤ}
 use lib.ListN.{length}
-use lib.Seq.{sets, length-sets}
+use lib.Seq.{length-sets}
 use Rattle.geometry.specs.Refusal.{accepted}
 use Rattle.geometry.specs.Entry.{entry}
 use Rattle.geometry.proofs.Verdicts.{zero-accepted}

@@ -1,4 +1,4 @@
--- `slide::table::fill_last` meets its contract: after d turns the first d cells hold no bound.
+-- `slide::table::fill_last` meets its contract: after i turns the first i cells hold no bound.
 use mathlib.Core.Path.{_≡_, refl}
 use Prim.Native.Nat.{_+_, _≤_, _-_}
 use native.Mathlib.Omega.{arith}
@@ -9,10 +9,10 @@ use Rattle.slide.proofs.table.fill_last.Statement.{statement}
 use Rattle.slide.proofs.table.fill_last.Tie as tie
 
 abbrev Inv-loop : tie.InvT-loop
-Inv-loop work₀ row length d₀ work d = (d ≤ length + 1) × FilledTo work₀ work row d (λ e. noBound)
+Inv-loop work₀ row length last i₀ work i = (i ≤ length + 1) × FilledTo work₀ work row i (λ e. noBound)
 
 abbrev μ-loop : tie.MeasureT-loop
-μ-loop work₀ row length d₀ work d = length + 1 - d
+μ-loop work₀ row length last i₀ work i = length + 1 - i
 
 loop-holds : tie.Need-loop-holds Inv-loop μ-loop
 loop-holds c = (omega arith, filled-none _ _ _)
@@ -26,8 +26,8 @@ mul-work c = omega arith
 slice-write-work : tie.Need-slice-write-work Inv-loop μ-loop
 slice-write-work c = omega arith
 
-add-d : tie.Need-add-d Inv-loop μ-loop
-add-d c = omega arith
+add-i : tie.Need-add-i Inv-loop μ-loop
+add-i c = omega arith
 
 loop-less : tie.Need-loop-less Inv-loop μ-loop
 loop-less c = omega arith
@@ -39,8 +39,8 @@ same-length : tie.Need-same-length Inv-loop μ-loop
 same-length c = c .before .loop .inv .1 .same-length
 
 returns : tie.Need-returns Inv-loop μ-loop
-returns c = let e : c .before .loop .d ≡ c .before .before .args .length + 1 = omega arith in rw (← e) (c .before .loop .inv .1)
+returns c = let e : c .before .loop .i ≡ c .before .before .args .length + 1 = omega arith in rw (← e) (c .before .loop .inv .1)
 
 pub fill-last-spec : {M : Type 1} → statement M
 fill-last-spec =
-    tie.close (tie.spec Inv-loop μ-loop loop-holds add-work mul-work slice-write-work add-d loop-less loop-again same-length returns)
+    tie.close (tie.spec Inv-loop μ-loop loop-holds add-work mul-work slice-write-work add-i loop-less loop-again same-length returns)

@@ -9,11 +9,11 @@ use Rattle.slide.proofs.table.fill_row.Statement.{statement}
 use Rattle.slide.proofs.table.fill_row.Tie as tie
 
 abbrev Inv-loop : tie.InvT-loop
-Inv-loop work₀ row place length next-place next-length next slides₀ d₀ work slides d =
+Inv-loop work₀ row place length next-place next-length next last slides₀ d₀ work slides d =
     (d ≤ length + 1) × Scanned work₀ work row place (plainMark next-place next-length) d slides
 
 abbrev μ-loop : tie.MeasureT-loop
-μ-loop work₀ row place length next-place next-length next slides₀ d₀ work slides d = length + 1 - d
+μ-loop work₀ row place length next-place next-length next last slides₀ d₀ work slides d = length + 1 - d
 
 add-next : tie.Need-add-next Inv-loop μ-loop
 add-next c = omega arith

@@ -1,15 +1,13 @@
 -- `slide::table::own_side` meets its contract: past the mark there is no room, and else the cell of its slide says how much.
-use mathlib.Core.Path.{refl}
 use borrow.Author.Needs.{needs}
-use borrow.Author.Tests.{le-leb, lt-leb}
+use Rattle.slide.specs.inner.Plain.{plainMark}
+use Rattle.slide.specs.inner.Table.{rowFrom}
+use Rattle.slide.proofs.Rows.{own-beyond, own-by-cell}
 use Rattle.slide.proofs.table.own_side.Statement.{statement}
 use Rattle.slide.proofs.table.own_side.Tie as tie
 
 returns : tie.Need-returns
-returns c = rw (lt-leb _ _ (c .if1 .taken)) refl
-
-sub-slid : tie.Need-sub-slid
-sub-slid c = search needs
+returns c = own-beyond (plainMark (c .before .before .args .place) (c .before .before .args .length)) _ (rowFrom (c .before .before .args .work .now) (c .before .before .args .row)) (c .if1 .taken)
 
 slid-requires : tie.Need-slid-requires
 slid-requires c κs = search needs
@@ -24,14 +22,13 @@ shared-slice-read-result : tie.Need-shared-slice-read-result
 shared-slice-read-result c = search needs
 
 returns-2 : tie.Need-returns-2
-returns-2 c = rw (c .before .slid .ensures, le-leb _ _ (c .before .before .if1 .left)) refl
+returns-2 c = own-by-cell (plainMark (c .before .before .before .before .args .place) (c .before .before .before .before .args .length)) _ _ (rowFrom (c .before .before .before .before .args .work .now) (c .before .before .before .before .args .row)) (c .before .before .if1 .left) (c .before .slid .ensures)
 
 pub own-side-spec : {M : Type 1} → statement M
 own-side-spec =
     tie.close
     (tie.spec
     returns
-    sub-slid
     slid-requires
     add-result
     mul-result

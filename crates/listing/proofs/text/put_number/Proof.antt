@@ -1,0 +1,60 @@
+-- `listing::text::put_number` meets its contract: the digits one behind the other.
+use native.Mathlib.Omega.{arith}
+use Rattle.listing.specs.Text.{decimal}
+use Rattle.listing.proofs.Append.{digit-short, appended-join}
+use borrow.Author.Needs.{needs}
+use Rattle.listing.proofs.text.put_number.Statement.{statement}
+use Rattle.listing.proofs.text.put_number.Tie as tie
+use Rattle.listing.proofs.text.put_number.Reads as reads
+use Rattle.listing.proofs.text.put_number.Lts as lts
+use Rattle.listing.proofs.text.put_byte.Reads as put-byte-reads
+use Rattle.listing.proofs.text.put_digit.Reads as put-digit-reads
+
+put-digit-requires : tie.Need-put-digit-requires
+put-digit-requires c κs = search needs
+
+put-digit-requires-2 : tie.Need-put-digit-requires-2
+put-digit-requires-2 c κs = omega (arith, c .before .before .before .put-digit .ensures .next-is, c .before .before .before .put-digit .kept .0, digit-short 10000 (c .before .before .before .before .before .before .args .number))
+
+put-digit-requires-3 : tie.Need-put-digit-requires-3
+put-digit-requires-3 c κs =
+    omega
+    (arith, c .before .before .before .put-digit2 .ensures .next-is, c .before .before .before .put-digit2 .kept .0, digit-short 1000 (c .before .before .before .before .before .before .before .before .before .before .args .number), c .before .before .before .before .before .before .before .put-digit .ensures .next-is, c .before .before .before .before .before .before .before .put-digit .kept .0, digit-short 10000 (c .before .before .before .before .before .before .before .before .before .before .args .number))
+
+put-digit-requires-4 : tie.Need-put-digit-requires-4
+put-digit-requires-4 c κs =
+    omega
+    (arith, c .before .before .before .put-digit3 .ensures .next-is, c .before .before .before .put-digit3 .kept .0, digit-short 100 (c .before .before .before .before .before .before .before .before .before .before .before .before .before .before .args .number), c .before .before .before .before .before .before .before .put-digit2 .ensures .next-is, c .before .before .before .before .before .before .before .put-digit2 .kept .0, digit-short 1000 (c .before .before .before .before .before .before .before .before .before .before .before .before .before .before .args .number), c .before .before .before .before .before .before .before .before .before .before .before .put-digit .ensures .next-is, c .before .before .before .before .before .before .before .before .before .before .before .put-digit .kept .0, digit-short 10000 (c .before .before .before .before .before .before .before .before .before .before .before .before .before .before .args .number))
+
+cast-put-byte : tie.Need-cast-put-byte
+cast-put-byte c = search needs
+
+add-put-byte : tie.Need-add-put-byte
+add-put-byte c = search needs
+
+put-byte-requires : tie.Need-put-byte-requires
+put-byte-requires c κs =
+    omega
+    (arith, c .before .before .before .put-digit4 .ensures .next-is, c .before .before .before .put-digit4 .kept .0, digit-short 10 (c .before .before .before .before .before .before .before .before .before .before .before .before .before .before .before .before .before .before .args .number), c .before .before .before .before .before .before .before .put-digit3 .ensures .next-is, c .before .before .before .before .before .before .before .put-digit3 .kept .0, digit-short 100 (c .before .before .before .before .before .before .before .before .before .before .before .before .before .before .before .before .before .before .args .number), c .before .before .before .before .before .before .before .before .before .before .before .put-digit2 .ensures .next-is, c .before .before .before .before .before .before .before .before .before .before .before .put-digit2 .kept .0, digit-short 1000 (c .before .before .before .before .before .before .before .before .before .before .before .before .before .before .before .before .before .before .args .number), c .before .before .before .before .before .before .before .before .before .before .before .before .before .before .before .put-digit .ensures .next-is, c .before .before .before .before .before .before .before .before .before .before .before .before .before .before .before .put-digit .kept .0, digit-short 10000 (c .before .before .before .before .before .before .before .before .before .before .before .before .before .before .before .before .before .before .args .number))
+
+same-length : tie.Need-same-length
+same-length c = search needs
+
+returns : tie.Need-returns
+unfolding decimal
+returns c =
+    appended-join (appended-join (appended-join (appended-join (c .before .before .before .before .before .before .before .before .before .before .before .before .before .before .before .before .before .before .put-digit .ensures) (c .before .before .before .before .before .before .before .before .before .before .before .before .before .before .put-digit2 .ensures)) (c .before .before .before .before .before .before .before .before .before .before .put-digit3 .ensures)) (c .before .before .before .before .before .before .put-digit4 .ensures)) (c .before .before .put-byte .ensures)
+
+pub put-number-spec : {M : Type 1} → statement M
+put-number-spec =
+    tie.close
+    (tie.spec
+    put-digit-requires
+    put-digit-requires-2
+    put-digit-requires-3
+    put-digit-requires-4
+    cast-put-byte
+    add-put-byte
+    put-byte-requires
+    same-length
+    returns)

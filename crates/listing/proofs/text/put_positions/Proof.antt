@@ -1,0 +1,58 @@
+-- `listing::text::put_positions` meets its contract: after i turns the first i numbers stand behind the text.
+use Prim.Native.Nat.{_-_}
+use native.Mathlib.Omega.{arith}
+use Rattle.listing.proofs.Append.{Spacing, spacing-none, spacing-more, spacing-done}
+use Rattle.listing.proofs.text.put_positions.Statement.{statement}
+use Rattle.listing.proofs.text.put_positions.Tie as tie
+use Rattle.listing.proofs.text.put_positions.Reads as reads
+use Rattle.listing.proofs.text.put_positions.Lts as lts
+use Rattle.listing.proofs.text.put_spaced.Reads as put-spaced-reads
+
+abbrev Inv-loop : tie.InvT-loop
+Inv-loop buffer₀ at positions count next₀ i₀ buffer next i = Spacing buffer₀ at positions count buffer next i
+
+abbrev μ-loop : tie.MeasureT-loop
+μ-loop buffer₀ at positions count next₀ i₀ buffer next i = count - i
+
+loop-holds : tie.Need-loop-holds Inv-loop μ-loop
+loop-holds c = spacing-none _ _ _ _ (c .before .before .pre .0) (c .before .before .pre .1)
+
+shared-slice-read-put-spaced : tie.Need-shared-slice-read-put-spaced Inv-loop μ-loop
+shared-slice-read-put-spaced c = omega arith
+
+cast-put-spaced : tie.Need-cast-put-spaced Inv-loop μ-loop
+cast-put-spaced c = omega (arith, c .shared-slice-known2 .given (c .before .before .before .loop .i))
+
+put-spaced-requires : tie.Need-put-spaced-requires Inv-loop μ-loop
+put-spaced-requires c κs = omega arith
+
+add-i : tie.Need-add-i Inv-loop μ-loop
+add-i c = omega arith
+
+loop-less : tie.Need-loop-less Inv-loop μ-loop
+loop-less c = omega arith
+
+loop-again : tie.Need-loop-again Inv-loop μ-loop
+loop-again c = spacing-more _ _ _ _ _ _ _ _ _ (c .before .before .before .before .before .before .loop .inv) (c .before .before .before .before .before .loop-test .taken) (c .before .before .put-spaced .ensures) (c .before .before .put-spaced .kept .0)
+
+same-length : tie.Need-same-length Inv-loop μ-loop
+same-length c = c .before .loop .inv .same-length
+
+returns : tie.Need-returns Inv-loop μ-loop
+returns c = spacing-done _ _ _ _ _ _ _ (c .before .loop .inv) (c .loop-test .left)
+
+pub put-positions-spec : {M : Type 1} → statement M
+put-positions-spec =
+    tie.close
+    (tie.spec
+    Inv-loop
+    μ-loop
+    loop-holds
+    shared-slice-read-put-spaced
+    cast-put-spaced
+    put-spaced-requires
+    add-i
+    loop-less
+    loop-again
+    same-length
+    returns)

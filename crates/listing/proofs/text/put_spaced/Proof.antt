@@ -1,0 +1,24 @@
+-- `listing::text::put_spaced` meets its contract.
+use Rattle.listing.proofs.Append.{appended-join}
+use borrow.Author.Needs.{needs}
+use Rattle.listing.proofs.text.put_spaced.Statement.{statement}
+use Rattle.listing.proofs.text.put_spaced.Tie as tie
+use Rattle.listing.proofs.text.put_spaced.Reads as reads
+use Rattle.listing.proofs.text.put_spaced.Lts as lts
+use Rattle.listing.proofs.text.put_byte.Reads as put-byte-reads
+use Rattle.listing.proofs.text.put_number.Reads as put-number-reads
+
+put-byte-requires : tie.Need-put-byte-requires
+put-byte-requires c κs = search needs
+
+put-number-requires : tie.Need-put-number-requires
+put-number-requires c κs = search needs
+
+same-length : tie.Need-same-length
+same-length c = search needs
+
+returns : tie.Need-returns
+returns c = appended-join (c .before .before .before .before .before .before .put-byte .ensures) (c .before .before .put-number .ensures)
+
+pub put-spaced-spec : {M : Type 1} → statement M
+put-spaced-spec = tie.close (tie.spec put-byte-requires put-number-requires same-length returns)
