@@ -1,7 +1,6 @@
 -- The contract of the best pass, from what its parts give.
 use mathlib.Core.Path.{_≡_, refl, sym, _∙_, ap}
-use mathlib.Core.Bool.{true}
-use mathlib.Core.List.{List, map, _++_}
+use mathlib.Core.List.{List, map}
 use Prim.Native.Nat.{ℕ, _≤_, min}
 use native.Mathlib.Omega.{arith}
 use lib.IntN.{ℤ}
@@ -14,7 +13,6 @@ use Rattle.geometry.specs.Refusal.{Verdict, accepted, numberOf}
 use Rattle.geometry.proofs.Accepted.{Accepted, pass-accepted, accepted-rising, length-marks}
 use Rattle.geometry.proofs.Verdicts.{zero-accepted}
 use Rattle.best.specs.Best.{Lent, verdictOf, BestContract}
-use Rattle.best.specs.declared.answer.Best.{Best}
 use Rattle.best.specs.inner.Worth.{worth, bestFrom}
 use Rattle.best.specs.inner.Table.{Strip}
 use Rattle.best.specs.inner.Zeros.{zerosFrom}

@@ -1,27 +1,21 @@
 -- Cells of the table: where they stand, and what they hold.
 use mathlib.Core.Path.{_≡_, refl, sym, _∙_, ap}
-use mathlib.Core.Bool.{Bool, true, false, cond}
+use mathlib.Core.Bool.{Bool, true, false, cond, _&&_}
 use mathlib.Core.List.{List, [], _∷_}
-use mathlib.Core.Logic.{_⊎_, inl, inr}
-use Prim.Native.Nat.{ℕ, suc, _+_, _-_, _*_, _/_, _%_, _≤_, _<_, max}
+use Prim.Native.Nat.{ℕ, suc, _+_, _/_, _≤_, _<_, max}
 use native.Mathlib.Omega.{arith}
-use native.Mathlib.Decide.{decLe}
-use lib.Dec.{ltb, eqb}
 use lib.IntN.{ℤ}
-use lib.ListN.{length, getD, set, drop}
-use lib.Seq.{getD-set-same, getD-set-other}
-use borrow.Author.Tests.{lt-ltb, le-ltb}
+use lib.ListN.{length, getD, drop}
+use borrow.Author.Tests.{le-ltb}
 use Rattle.geometry.specs.Lists.{greatestOf}
-use Rattle.geometry.specs.Mark.{Mark, marksOf}
+use Rattle.geometry.specs.Mark.{marksOf}
 use Rattle.geometry.specs.Position.{Side, above, below, Direction, leftward, rightward, Position, unlabelled, at, everyPosition}
 use Rattle.geometry.specs.inner.Machine.{nextAbove, nextBelow}
-use Rattle.geometry.proofs.Split.{by-eqb, lt-or-ge}
 use Rattle.geometry.proofs.Accepted.{marks-from}
-use Rattle.best.specs.inner.Worth.{roomFor, earnedBy, worth}
+use Rattle.best.specs.inner.Worth.{earnedBy, worth}
 use Rattle.best.specs.inner.Names.{markAt, nameOf, reachNamed, aboveNamed, belowNamed, Known}
-use Rattle.best.specs.inner.Table.{cellOf, cellAfter, cellWorth, Partly, Filled, Strip, Beside, Light, roomAt, gainAt}
+use Rattle.best.specs.inner.Table.{cellOf, cellAfter, cellWorth, Partly, Strip, Beside, Light, roomAt, gainAt}
 use Rattle.best.proofs.Names.{above-named, below-named}
-use Rattle.best.proofs.Worth.{worth-limit}
 
 name-small : (k : ℕ) (d : Direction) → k < 60 → nameOf k d < 122
 name-small k leftward h = omega arith
@@ -106,13 +100,29 @@ module _ (g : ℕ) (zs : List ℤ) (ls ws : List ℕ) (k : ℕ) (same-lengths : 
         (λ p. ap (λ n. earnedBy (getD ws k 0) p + n) (led-to p ∙ after-worth g zs ls ws (suc k) k x y p (later-number k x y p above-before below-before)))
         ∙ worth-from x y above-before below-before
 
--- what the inner calls ask of the last labels
+-- what `has_room` and `gain` ask
 module _ (zs : List ℤ) (ls ws work : List ℕ) (k x y : ℕ) (strip : Strip zs ls ws work) (beside : Beside zs k x y) where
-  pub known-above : Known zs ls x
-  known-above = record { same-lengths = strip .same-lengths; places-good = strip .places-good; within = omega arith }
+  pub room-asked : Known zs ls x × (Known zs ls y × ((k < length zs) × (k < 60)))
+  room-asked =
+      let known : (name : ℕ) → name / 2 ≤ length zs → Known zs ls name =
+      λ name h. record { same-lengths = strip .same-lengths; places-good = strip .places-good; within = h } in
+      (known x (omega arith), (known y (omega arith), (beside .in-strip, omega arith)))
 
-  pub known-below : Known zs ls y
-  known-below = record { same-lengths = strip .same-lengths; places-good = strip .places-good; within = omega arith }
+  pub gain-asked : Light work k x y → (k < length ws) × ((k < 60) × (((x < 122) × (y < 122)) × ((15000 ≤ length work) × Light work k x y)))
+  gain-asked light = (omega arith, (omega arith, (omega arith, (strip .roomy, light))))
+
+-- a test has decided
+pub where-room : {r t : Bool} (v w : ℕ) → r ≡ t → r ≡ true → v ≡ w → v ≡ cond t w 0
+where-room v w e h k = k ∙ sym (ap (λ (u : Bool). cond u w 0) (sym e ∙ h))
+
+pub where-no-room : {r t : Bool} (w : ℕ) → r ≡ t → r ≡ false → 0 ≡ cond t w 0
+where-no-room w e h = sym (ap (λ (u : Bool). cond u w 0) (sym e ∙ h))
+
+pub both-tests : {r t u v : Bool} → r ≡ t → r ≡ true → u ≡ v → u ≡ (t && v)
+both-tests {v = v} e h k = k ∙ sym (ap (λ (s : Bool). s && v) (sym e ∙ h))
+
+pub first-test-fails : {r t : Bool} (v : Bool) → r ≡ t → r ≡ false → false ≡ (t && v)
+first-test-fails v e h = sym (ap (λ (s : Bool). s && v) (sym e ∙ h))
 
 -- the same strip with a work area of the same size
 pub strip-again : {zs : List ℤ} {ls ws : List ℕ} (work new : List ℕ) → Strip zs ls ws work → length new ≡ length work → Strip zs ls ws new

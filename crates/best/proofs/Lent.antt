@@ -1,10 +1,10 @@
 -- Lent lists: a part that is cleared or written, and the rest as it was.
 use mathlib.Core.Path.{_≡_, refl, sym, _∙_, ap}
 use mathlib.Core.List.{List, [], _∷_, _++_}
-use Prim.Native.Nat.{ℕ, suc, _+_, _≤_, _<_}
+use Prim.Native.Nat.{ℕ, _+_, _<_}
 use native.Mathlib.Omega.{arith}
 use native.Mathlib.Numerals.{add-one}
-use lib.ListN.{length, getD, take, drop, set, replicate, take-append-drop, length-replicate}
+use lib.ListN.{length, take, drop, set, replicate, take-append-drop, length-replicate}
 use lib.Seq.{drop-at, take-suc-set, drop-set-lt, drop-drop}
 use Rattle.geometry.specs.Pass.{written, cleared}
 

@@ -1,20 +1,19 @@
 -- Names of labels and the ends that they stand for.
 use mathlib.Core.Path.{_≡_, refl, sym, _∙_, ap}
-use mathlib.Core.Bool.{Bool, true, false, cond}
+use mathlib.Core.Bool.{Bool}
 use mathlib.Core.List.{List}
-use Prim.Native.Nat.{ℕ, suc, _+_, _-_, _*_, _/_, _%_, _≤_, _<_}
+use Prim.Native.Nat.{ℕ, _+_, _-_, _/_, _%_, _≤_, _<_}
 use native.Mathlib.Omega.{arith}
-use lib.Dec.{leb, ltb, eqb}
+use lib.Dec.{leb}
 use lib.IntN.{ℤ, pos}
-use lib.ListN.{length, getD}
+use lib.ListN.{getD}
 use borrow.Author.Tests.{lt-ltb, le-ltb, eq-eqb, ne-eqb}
 use Rattle.geometry.specs.Dot.{dot}
-use Rattle.geometry.specs.Mark.{Mark}
 use Rattle.geometry.specs.Position.{Side, above, below, Direction, leftward, rightward, Position, unlabelled, at, ownReach}
 use Rattle.geometry.specs.Overlap.{leftEnd, rightEnd}
 use Rattle.geometry.specs.inner.Machine.{nextAbove, nextBelow}
 use Rattle.best.specs.inner.Worth.{roomFor}
-use Rattle.best.specs.inner.Names.{markAt, nameOf, directionOf, leftNamed, reachNamed, aboveNamed, belowNamed}
+use Rattle.best.specs.inner.Names.{markAt, nameOf, leftNamed, reachNamed, aboveNamed, belowNamed}
 
 -- the ends, by the two tests that the program makes
 module _ (zs : List ℤ) (ls : List ℕ) (name : ℕ) where

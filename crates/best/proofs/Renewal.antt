@@ -1,11 +1,10 @@
 -- The table is renewed for one mark more, cell by cell in their order.
 use mathlib.Core.Path.{_≡_, refl, sym, _∙_, ap}
-use mathlib.Core.Bool.{Bool, true, false, cond}
-use mathlib.Core.List.{List, [], _∷_, _++_}
+use mathlib.Core.Bool.{cond}
+use mathlib.Core.List.{List}
 use mathlib.Core.Logic.{_⊎_, inl, inr, ⊎-elim}
-use Prim.Native.Nat.{ℕ, suc, _+_, _-_, _*_, _/_, _%_, _≤_, _<_, max}
+use Prim.Native.Nat.{ℕ, suc, _+_, _*_, _/_, _%_, _≤_, _<_, max}
 use native.Mathlib.Omega.{arith}
-use native.Mathlib.Decide.{decLe}
 use lib.Dec.{ltb}
 use lib.IntN.{ℤ}
 use lib.ListN.{length, getD, set, drop, replicate, List·getD-append, getD-replicate, length-replicate, drop-of-length-le}
@@ -14,12 +13,12 @@ use borrow.Author.Tests.{lt-ltb, le-ltb}
 use Rattle.geometry.specs.Mark.{marksOf}
 use Rattle.geometry.specs.Pass.{cleared}
 use Rattle.geometry.specs.Lists.{greatestOf}
-use Rattle.geometry.specs.Position.{Position, everyPosition}
-use Rattle.geometry.proofs.Split.{lt-or-ge, by-ltb}
+use Rattle.geometry.specs.Position.{everyPosition}
+use Rattle.geometry.proofs.Split.{lt-or-ge}
 use Rattle.geometry.proofs.Accepted.{length-marks}
 use Rattle.best.specs.inner.Worth.{worth}
 use Rattle.best.specs.inner.Names.{reachNamed, aboveNamed, belowNamed}
-use Rattle.best.specs.inner.Table.{cellOf, cellAfter, cellWorth, Partly, Filled, Strip, Beside, Light, roomAt, gainAt}
+use Rattle.best.specs.inner.Table.{cellOf, cellWorth, Partly, Filled, Strip, Beside, Light, roomAt, gainAt}
 use Rattle.best.proofs.Worth.{worth-limit}
 use Rattle.best.proofs.Cells.{above-small, below-small, same-worth, renewed-worth}
 

@@ -1,20 +1,18 @@
 -- The walk from the left: what is written so far, with the best choice of the rest behind it, is the best choice of the strip.
 use mathlib.Core.Path.{_≡_, refl, sym, _∙_, ap}
-use mathlib.Core.Bool.{Bool, true, false, _&&_}
 use mathlib.Core.List.{List, [], _∷_, _++_, map, append-assoc, append-nil}
-use Prim.Native.Nat.{ℕ, suc, _+_, _-_, _*_, _/_, _≤_, _<_, max}
+use Prim.Native.Nat.{ℕ, suc, _+_, _-_, _/_, _≤_, _<_}
 use native.Mathlib.Omega.{arith}
 use native.Mathlib.Numerals.{add-one}
-use lib.Dec.{eqb}
 use lib.IntN.{ℤ}
 use lib.ListN.{length, getD, set, take, drop, length-map, length-set, drop-of-length-le}
 use Rattle.geometry.specs.Lists.{firstOf}
 use Rattle.geometry.specs.Mark.{Mark, marksOf}
 use Rattle.geometry.specs.Pass.{written}
-use Rattle.geometry.specs.Position.{Side, above, below, Direction, leftward, rightward, Position, unlabelled, at, ranked, code}
+use Rattle.geometry.specs.Position.{Side, above, below, Direction, leftward, rightward, Position, unlabelled, at, code}
 use Rattle.geometry.specs.inner.Machine.{nextAbove, nextBelow}
 use Rattle.geometry.proofs.Accepted.{marks-from, length-marks}
-use Rattle.best.specs.inner.Worth.{roomFor, earnedBy, worth, picked, pickedFrom, bestFrom}
+use Rattle.best.specs.inner.Worth.{earnedBy, worth, picked, pickedFrom, bestFrom}
 use Rattle.best.specs.inner.Names.{markAt, reachNamed, aboveNamed, belowNamed}
 use Rattle.best.specs.inner.Table.{cellAfter, cellWorth, Filled, Strip, Beside, Light}
 use Rattle.best.proofs.Worth.{picked-attains}

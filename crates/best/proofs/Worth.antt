@@ -1,8 +1,8 @@
 -- `worth` is the best sum, and the choice of the walk attains it.
-use mathlib.Core.Path.{_≡_, refl, sym, _∙_, ap}
+use mathlib.Core.Path.{_≡_, refl, _∙_, ap}
 use mathlib.Core.Bool.{Bool, true, false, _&&_}
 use mathlib.Core.List.{List, [], _∷_}
-use mathlib.Core.Logic.{_⊎_, inl, inr, ⊎-elim}
+use mathlib.Core.Logic.{inl, inr}
 use mathlib.Core.Option.{Option, none, some}
 use Prim.Native.Nat.{ℕ, zero, suc, _+_, _*_, _≤_}
 use native.Mathlib.Omega.{arith}
@@ -10,7 +10,7 @@ use lib.Dec.{leb, eqb}
 use lib.IntN.{ℤ}
 use lib.ListN.{length, drop, length-drop}
 use borrow.Author.Tests.{leb-true, le-leb, eqb-true, eq-eqb}
-use Rattle.geometry.specs.Lists.{every, firstOf, greatestOf}
+use Rattle.geometry.specs.Lists.{every, firstOf}
 use Rattle.geometry.specs.Mark.{Mark, marksOf, weightInRange}
 use Rattle.geometry.specs.Position.{Position, unlabelled, at, ranked, everyPosition, ownReach}
 use Rattle.geometry.specs.Overlap.{free, leftEnd}
@@ -18,11 +18,11 @@ use Rattle.geometry.specs.Placing.{sumOf, bestSum}
 use Rattle.geometry.specs.inner.Rising.{Rising}
 use Rattle.geometry.specs.inner.Machine.{Room, nextAbove, nextBelow, Go}
 use Rattle.geometry.proofs.Split.{both, and-fst, and-snd, clash}
-use Rattle.geometry.proofs.Words.{Member, none-passes, found-passes, Attained, greatest-bounds, greatest-attained}
+use Rattle.geometry.proofs.Words.{Member, none-passes, found-passes, greatest-bounds, greatest-attained}
 use Rattle.geometry.proofs.Accepted.{length-marks}
 use Rattle.geometry.proofs.Machine.{free-iff-go}
 use Rattle.geometry.proofs.Best.{position-listed, best-bounds, best-attained}
-use Rattle.best.specs.inner.Worth.{roomFor, earnedBy, worth, orUnlabelled, picked, pickedFrom, bestFrom}
+use Rattle.best.specs.inner.Worth.{roomFor, earnedBy, worth, orUnlabelled, pickedFrom, bestFrom}
 
 -- the test of room is the room of the walk with two reaches
 room-passes : (a b : ℕ) (m : Mark) (p : Position) → Room a b m p → roomFor a b m p ≡ true

@@ -7,9 +7,9 @@ ghost use mathlib.Core.List.{List};
 ghost use mathlib.Core.Path.{_≡_};
 ghost use Prim.Native.Nat.{ℕ, _+_, _≤_, _<_};
 ghost use lib.Dec.{leb};
-ghost use lib.ListN.{length};
+ghost use lib.ListN.{length, getD};
 ghost use Rattle.geometry.specs.Dot.{dot};
-ghost use Rattle.geometry.specs.Position.{code};
+ghost use Rattle.geometry.specs.Position.{code, everyPosition, unlabelled};
 ghost use Rattle.best.specs.inner.Worth.{roomFor};
 ghost use Rattle.best.specs.inner.Names.{positionOf, markAt, leftNamed, reachNamed, aboveNamed, belowNamed, Known};
 
@@ -22,6 +22,19 @@ pub enum Position {
     AboveLeft,
     BelowLeft,
     BelowRight,
+}
+
+// The positions in the order in which they are tried: none, then 2, 3, 1, 4.
+pub fn position_at(i: usize) -> Position
+    ensures { λ r. ⌜ positionOf r ≡ getD everyPosition i unlabelled ⌝ }
+{
+    match i {
+        1 => Position::AboveLeft,
+        2 => Position::BelowLeft,
+        3 => Position::AboveRight,
+        4 => Position::BelowRight,
+        _ => Position::Unlabelled,
+    }
 }
 
 // Document 01's number of a position.

@@ -1,8 +1,8 @@
 -- `bestSum` is the sum of an overlap-free choice, and no such choice exceeds it.
-use mathlib.Core.Path.{_≡_, refl, sym, _∙_, ap}
-use mathlib.Core.Bool.{Bool, true, false, _&&_, not}
+use mathlib.Core.Path.{_≡_, refl, sym, ap}
+use mathlib.Core.Bool.{true}
 use mathlib.Core.List.{List, [], _∷_}
-use mathlib.Core.Logic.{_⊎_, inl, inr}
+use mathlib.Core.Logic.{inl, inr}
 use Prim.Native.Nat.{ℕ, suc, _≤_}
 use lib.ListN.{length}
 use Rattle.geometry.specs.Lists.{wordsOf}

@@ -21,7 +21,7 @@ use Rattle.geometry.proofs.Sliding.{slides-whole}
 use Rattle.geometry.proofs.WholeEdges.{whole-slides}
 use Rattle.job.specs.Number.{Bytes}
 use Rattle.job.specs.Outcome.{Outcome, given, refusal, verdictOf}
-use Rattle.job.specs.Format.{Marks}
+use Rattle.job.specs.Marks.{Marks}
 use Rattle.job.specs.Decode.{decode}
 use Rattle.job.specs.Calls.{ReadCall, usedOf, leftAs}
 use Rattle.job.specs.declared.answer.Read.{Read}

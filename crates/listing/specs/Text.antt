@@ -11,7 +11,7 @@ use Rattle.geometry.specs.Position.{Position, code}
 use Rattle.geometry.specs.Placing.{firstPlacing, bestSum}
 use Rattle.geometry.specs.Refusal.{Refusal, refusalNumber}
 use Rattle.job.specs.Outcome.{Outcome, given, refusal}
-use Rattle.job.specs.Format.{Marks}
+use Rattle.job.specs.Marks.{Marks}
 
 -- the fixed words, as bytes
 abbrev pub marksWord : List ℕ

@@ -1,7 +1,6 @@
 -- `best::best` meets its contract: the first check that is not passed decides, and else the parts give what it says.
-use mathlib.Core.Path.{_≡_, refl, sym, _∙_, ap}
+use mathlib.Core.Path.{_≡_}
 use native.Mathlib.Omega.{arith}
-use lib.ListN.{length}
 use Rattle.geometry.specs.Refusal.{accepted, numberOf}
 use Rattle.best.specs.Best.{Lent, lent, verdictOf}
 use Rattle.best.proofs.Answers.{verdict-number, verdict-accepted, answer-refused, accepted-strip, positions-enough, left-out-enough, answer-accepted}

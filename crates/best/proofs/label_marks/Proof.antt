@@ -1,7 +1,4 @@
 -- `best::label_marks` meets its contract: the filled table, the walk by it, and its first cell.
-use mathlib.Core.Path.{_≡_, refl, sym, _∙_, ap}
-use native.Mathlib.Omega.{arith}
-use lib.ListN.{length}
 use Rattle.best.proofs.Cells.{strip-again}
 use Rattle.best.proofs.Lent.{cleared-again}
 use Rattle.best.proofs.Walked.{first-cell}

@@ -27,6 +27,10 @@ positionOf BelowRight = at below rightward
 abbrev pub markAt : List ℤ → List ℕ → List ℕ → ℕ → Mark
 markAt zs ls ws i = record { place = dot (getD zs i (pos 0)); labelLength = getD ls i 0; weight = getD ws i 0 }
 
+-- the same without its weight, on which no end of its label depends
+abbrev labelAt : List ℤ → List ℕ → ℕ → Mark
+labelAt zs ls i = record { place = dot (getD zs i (pos 0)); labelLength = getD ls i 0; weight = 0 }
+
 -- the name of the label of the mark with index k
 abbrev pub nameOf : ℕ → Direction → ℕ
 nameOf k leftward = 2 * k + 2
@@ -34,10 +38,6 @@ nameOf k rightward = 2 * k + 3
 
 abbrev pub directionOf : ℕ → Direction
 directionOf name = cond (eqb (name % 2) 0) leftward rightward
-
--- the same without its weight, of which the ends of its label do not depend
-abbrev labelAt : List ℤ → List ℕ → ℕ → Mark
-labelAt zs ls i = record { place = dot (getD zs i (pos 0)); labelLength = getD ls i 0; weight = 0 }
 
 -- a label's left end, and its right end with the gap
 unfoldable pub leftNamed : List ℤ → List ℕ → ℕ → ℕ

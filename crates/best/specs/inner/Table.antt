@@ -1,9 +1,9 @@
 -- The table: a cell for each pair of names, 122 above and 122 below.
 use mathlib.Core.Path.{_≡_}
 use mathlib.Core.List.{List}
-use mathlib.Core.Bool.{Bool, true, cond}
+use mathlib.Core.Bool.{Bool, true, cond, _&&_}
 use Prim.Native.Nat.{ℕ, suc, _+_, _*_, _/_, _≤_, _<_, max}
-use lib.Dec.{ltb}
+use lib.Dec.{ltb, eqb}
 use lib.IntN.{ℤ}
 use lib.ListN.{length, getD, drop}
 use Rattle.geometry.specs.Lists.{every}
@@ -19,7 +19,8 @@ cellOf x y = x * 122 + y
 abbrev pub cellAfter : ℕ → ℕ → ℕ → Position → ℕ
 cellAfter k x y p = cellOf (aboveNamed k p x) (belowNamed k p y)
 
--- what the marks from number k + 1 on earn beside the last labels x above and y below, those of the marks up to the later of the two left out
+-- what the marks from index k on earn beside the last labels x above and y below; the marks up to the later of the two labels lie
+-- behind and count no more
 unfoldable pub cellWorth : ℕ → List ℤ → List ℕ → List ℕ → ℕ → ℕ → ℕ → ℕ
 cellWorth g zs ls ws k x y = worth g (reachNamed g zs ls x) (reachNamed g zs ls y) (drop (max k (max (x / 2) (y / 2))) (marksOf zs ls ws))
 
@@ -56,3 +57,7 @@ roomAt g zs ls ws k x y p = roomFor (reachNamed g zs ls x) (reachNamed g zs ls y
 
 abbrev pub gainAt : List ℕ → List ℕ → ℕ → ℕ → ℕ → Position → ℕ
 gainAt ws work k x y p = earnedBy (getD ws k 0) p + getD work (cellAfter k x y p) 0
+
+-- it has room and earns exactly target
+abbrev pub attainsAt : ℕ → List ℤ → List ℕ → List ℕ → List ℕ → ℕ → ℕ → ℕ → ℕ → Position → Bool
+attainsAt g zs ls ws work k x y target p = roomAt g zs ls ws k x y p && eqb (gainAt ws work k x y p) target

@@ -1,5 +1,5 @@
 -- `best::label::left_of` meets its contract: the test tells a leftward and a rightward label apart.
-use mathlib.Core.Path.{_≡_, refl, sym, _∙_, ap}
+use mathlib.Core.Path.{_∙_, ap}
 use Prim.Native.Nat.{ℕ, _-_, _/_}
 use native.Mathlib.Omega.{arith}
 use lib.IntN.{ℤ, pos}

@@ -1,5 +1,5 @@
 -- `best::table::renew_cell` meets its contract: the cell gets the greatest offer, or stays where mark k changes nothing.
-use mathlib.Core.Path.{_≡_, refl, sym, _∙_, ap}
+use mathlib.Core.Path.{refl, _∙_}
 use native.Mathlib.Omega.{arith}
 use lib.Seq.{drop-set-lt}
 use Rattle.best.proofs.Renewal.{skip-cell, set-cell, cell-beside, cells-light, cell-value}
