@@ -129,7 +129,7 @@ fn weights(t: Tally) -> Tally {
 // The first `k` bytes of a job, which must be refused with 1.
 fn truncated(t: Tally, job: &[u8], k: usize) -> Tally {
     if job.len() < k {
-        return tally::counted(t, false, false);
+        return tally::holds(t, 361, false);
     }
     refused(t, 361, &job[..k], 1)
 }

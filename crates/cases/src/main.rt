@@ -1,6 +1,8 @@
 // A test program: document 01's strips, each boundary, and random strips against a plain search through all choices. It prints a
 // line for each group, and a line for each case or strip that disagrees.
 mod jobs;
+mod labels;
+mod leftmost;
 mod lent;
 mod listings;
 mod random_best;

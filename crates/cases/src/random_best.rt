@@ -1,7 +1,7 @@
 // The best pass on random strips: the greatest sum over all overlap-free choices, that the listed choice is overlap-free and
 // earns the sum, and the left-out set.
 ghost use Prim.Native.Nat.{_≤_, _<_};
-use crate::search;
+use crate::labels;
 use crate::strip;
 use crate::tally;
 use strip::Draw;
@@ -89,7 +89,7 @@ fn earned(weights: &[u16; 8], n: usize, digits: &[u8; 8], i: usize) -> u32
     if n <= i {
         return 0;
     }
-    if search::at(digits, i) == 0 {
+    if labels::at(digits, i) == 0 {
         return 0;
     }
     wide(number_at(weights, i))
@@ -121,7 +121,7 @@ fn offered(
     if sum <= greatest {
         return greatest;
     }
-    if search::clash(search::BEST, dots, lengths, n, digits) < n {
+    if labels::clash(labels::BEST, dots, lengths, n, digits) < n {
         return greatest;
     }
     sum
@@ -129,7 +129,7 @@ fn offered(
 
 // The greatest sum of an overlap-free choice.
 fn greatest_sum(dots: &[u8; 8], lengths: &[u8; 8], weights: &[u16; 8], n: usize) -> u32 {
-    let all = search::choices(search::BEST, n);
+    let all = labels::choices(labels::BEST, n);
     let mut greatest = 0;
     let mut choice = 0;
     while choice < all {
@@ -138,7 +138,7 @@ fn greatest_sum(dots: &[u8; 8], lengths: &[u8; 8], weights: &[u16; 8], n: usize)
             lengths,
             weights,
             n,
-            &search::digits(search::BEST, n, choice),
+            &labels::digits(labels::BEST, n, choice),
             greatest,
         );
         choice += 1;
@@ -167,7 +167,7 @@ fn times_listed(left_out: &[u16; 8], count: usize, mark: u16) -> u32 {
 
 // Whether mark `i + 1` is listed once if it is at 0 and else not at all; behind the last mark the positions are as they were.
 fn mark_agrees(n: usize, positions: &[u8; 8], left_out: &[u16; 8], count: usize, i: usize) -> bool {
-    let position = search::at(positions, i);
+    let position = labels::at(positions, i);
     let times = times_listed(left_out, count, (i % 8 + 1) as u16);
     if n <= i {
         return position == 77 && times == 0;
@@ -213,7 +213,7 @@ fn agrees(s: Strip, given: Given) -> bool {
     if given.number != 0 {
         return false;
     }
-    if search::clash(search::BEST, &dots, &lengths, n, &positions) < n {
+    if labels::clash(labels::BEST, &dots, &lengths, n, &positions) < n {
         return false;
     }
     if sum_of(&weights, n, &positions) != given.sum {

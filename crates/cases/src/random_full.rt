@@ -1,5 +1,6 @@
 // The full pass on random strips against the first placing of the plain search: number and positions.
 ghost use Prim.Native.Nat.{_≤_};
+use crate::labels;
 use crate::search;
 use crate::strip;
 use crate::tally;
@@ -63,7 +64,7 @@ fn wanted_position(n: usize, digits: &[u8; 8], i: usize) -> u8 {
     if n <= i {
         return 77;
     }
-    search::ranked(search::at(digits, i))
+    labels::ranked(labels::at(digits, i))
 }
 
 // The position list that the first placing asks for.
@@ -85,11 +86,11 @@ fn agrees(n: usize, found: Search, given: Given) -> bool {
     let positions = given.positions;
     match found {
         Search::First(choice) => {
-            let digits = search::digits(search::FULL, n, choice);
-            given.number == 0 && search::packed(&positions) == search::packed(&wanted(n, &digits))
+            let digits = labels::digits(labels::FULL, n, choice);
+            given.number == 0 && labels::packed(&positions) == labels::packed(&wanted(n, &digits))
         }
         Search::Nothing => {
-            given.number == 11 && search::packed(&positions) == search::packed(&[77; 8])
+            given.number == 11 && labels::packed(&positions) == labels::packed(&[77; 8])
         }
         Search::Unfinished => false,
     }
@@ -100,7 +101,7 @@ fn compared(t: Tally, s: Strip) -> Tally {
     let n = strip::count_of(s);
     let dots = s.dots;
     let lengths = s.lengths;
-    let found = search::first_placing(search::FULL, &dots, &lengths, n);
+    let found = search::first_placing(labels::FULL, &dots, &lengths, n);
     let given = run(s);
     let number = given.number;
     let agreed = agrees(n, found, given);

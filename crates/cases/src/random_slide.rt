@@ -1,6 +1,8 @@
 // The slide pass on random strips. Whether a strip fits is decided by the plain search over all sides and all left edges at
 // whole and at half dots. The pass's own answer is tested pairwise, and each of its labels for being as far left as it goes.
 ghost use Prim.Native.Nat.{_≤_};
+use crate::labels;
+use crate::leftmost;
 use crate::search;
 use crate::strip;
 use crate::tally;
@@ -108,9 +110,9 @@ fn mark_digit(s: Strip, given: Given, i: usize) -> u8 {
     let sides = given.sides;
     let edges = given.edges;
     digit_of(
-        search::at(&sides, i),
-        search::at(&dots, i),
-        search::at(&lengths, i),
+        labels::at(&sides, i),
+        labels::at(&dots, i),
+        labels::at(&lengths, i),
         edge_at(&edges, i),
     )
 }
@@ -129,69 +131,12 @@ fn digits_of(s: Strip, given: Given) -> [u8; 8] {
     ]
 }
 
-fn larger(a: u32, b: u32) -> u32 {
-    if a < b { b } else { a }
-}
-
-// The leftmost edge that a reach leaves to a label, counted from 256 dots left of dot 0.
-fn leftmost(reach: u32, dot: u8, length: u8) -> u32 {
-    larger(reach, dot as u32 + 256 - length as u32)
-}
-
-// The reach of a side after mark `i`, if its label is put as far left as it goes; as it was if the label is on the other side.
-fn reach_after(
-    reach: u32,
-    side: u8,
-    dots: &[u8; 8],
-    lengths: &[u8; 8],
-    digits: &[u8; 8],
-    i: usize,
-) -> u32 {
-    if search::at(digits, i) % 2 != side {
-        return reach;
-    }
-    let length = search::at(lengths, i);
-    leftmost(reach, search::at(dots, i), length) % 65536 + length as u32
-}
-
-// The reach of a side before mark `k`.
-fn reach_before(side: u8, dots: &[u8; 8], lengths: &[u8; 8], digits: &[u8; 8], k: usize) -> u32 {
-    let mut reach = 0;
-    let mut i = 0;
-    while i < k {
-        reach = reach_after(reach, side, dots, lengths, digits, i);
-        i += 1;
-    }
-    reach
-}
-
-// Whether the label of mark `i` is as far left as it goes.
-fn is_leftmost(dots: &[u8; 8], lengths: &[u8; 8], digits: &[u8; 8], i: usize) -> bool {
-    let digit = search::at(digits, i);
-    let dot = search::at(dots, i);
-    let length = search::at(lengths, i);
-    let reach = reach_before(digit % 2, dots, lengths, digits, i);
-    leftmost(reach, dot, length) == dot as u32 + 256 + digit as u32 / 2 - length as u32
-}
-
-// Whether all labels are as far left as they go.
-fn are_leftmost(dots: &[u8; 8], lengths: &[u8; 8], digits: &[u8; 8], n: usize) -> bool {
-    let mut i = 0;
-    while i < n {
-        if !is_leftmost(dots, lengths, digits, i) {
-            return false;
-        }
-        i += 1;
-    }
-    true
-}
-
 // Whether element `i` of both lists is as it was, if it lies behind the last of `n` marks.
 fn is_kept_at(n: usize, sides: &[u8; 8], edges: &[i16; 8], i: usize) -> bool {
     if i < n {
         return true;
     }
-    if search::at(sides, i) != 77 {
+    if labels::at(sides, i) != 77 {
         return false;
     }
     edge_at(edges, i) == 7777
@@ -220,10 +165,10 @@ fn is_leftmost_placing(n: usize, s: Strip, given: Given) -> bool {
     let dots = s.dots;
     let lengths = s.lengths;
     let digits = digits_of(s, given);
-    if search::clash(search::SLIDE, &dots, &lengths, n, &digits) < n {
+    if labels::clash(labels::SLIDE, &dots, &lengths, n, &digits) < n {
         return false;
     }
-    if !are_leftmost(&dots, &lengths, &digits, n) {
+    if !leftmost::are_leftmost(&dots, &lengths, &digits, n) {
         return false;
     }
     is_kept(n, given)
@@ -273,8 +218,8 @@ fn compared(t: Tally, s: Strip) -> Tally {
     let n = strip::count_of(s);
     let dots = s.dots;
     let lengths = s.lengths;
-    let whole = search::first_placing(search::SLIDE, &dots, &lengths, n);
-    let halves = search::first_placing(search::HALVES, &dots, &lengths, n);
+    let whole = search::first_placing(labels::SLIDE, &dots, &lengths, n);
+    let halves = search::first_placing(labels::HALVES, &dots, &lengths, n);
     let given = run(s);
     let number = given.number;
     let agreed = agrees(n, s, whole, halves, given);

@@ -122,13 +122,13 @@ fn first_give(
     large: u8,
 ) -> Tally {
     if places.len() < n {
-        return tally::counted(t, false, false);
+        return tally::holds(t, case, false);
     }
     if lengths.len() < n {
-        return tally::counted(t, false, false);
+        return tally::holds(t, case, false);
     }
     if weights.len() < n {
-        return tally::counted(t, false, false);
+        return tally::holds(t, case, false);
     }
     all_give(
         t,

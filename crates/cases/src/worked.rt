@@ -1,5 +1,5 @@
 // Document 01's strips 1 to 11, run: lengths are 10, and weights 1 unless said.
-use crate::search;
+use crate::labels;
 use crate::tally;
 use tally::Tally;
 
@@ -20,8 +20,8 @@ fn full_gives(
     tally::same(
         first,
         strip,
-        search::packed(&positions),
-        search::packed(wanted),
+        labels::packed(&positions),
+        labels::packed(wanted),
     )
 }
 

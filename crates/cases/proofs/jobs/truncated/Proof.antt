@@ -6,8 +6,8 @@ use native.Mathlib.Omega.{arith}
 use Rattle.cases.proofs.jobs.truncated.Statement.{statement}
 use Rattle.cases.proofs.jobs.truncated.Tie as tie
 
-counted-requires : tie.Need-counted-requires
-counted-requires c κs = search needs
+holds-requires : tie.Need-holds-requires
+holds-requires c κs = search needs
 
 returns : tie.Need-returns
 returns c = search needs
@@ -23,5 +23,4 @@ returns-2 c = search needs
 
 pub truncated-spec : {M : Type 1} → statement M
 truncated-spec =
-    tie.close
-    (tie.spec counted-requires returns slice-aggregate-refused refused-requires returns-2)
+    tie.close (tie.spec holds-requires returns slice-aggregate-refused refused-requires returns-2)

@@ -6,20 +6,20 @@ use native.Mathlib.Omega.{arith}
 use Rattle.cases.proofs.ranges.first_give.Statement.{statement}
 use Rattle.cases.proofs.ranges.first_give.Tie as tie
 
-counted-requires : tie.Need-counted-requires
-counted-requires c κs = search needs
+holds-requires : tie.Need-holds-requires
+holds-requires c κs = search needs
 
 returns : tie.Need-returns
 returns c = search needs
 
-counted-requires-2 : tie.Need-counted-requires-2
-counted-requires-2 c κs = search needs
+holds-requires-2 : tie.Need-holds-requires-2
+holds-requires-2 c κs = search needs
 
 returns-2 : tie.Need-returns-2
 returns-2 c = search needs
 
-counted-requires-3 : tie.Need-counted-requires-3
-counted-requires-3 c κs = search needs
+holds-requires-3 : tie.Need-holds-requires-3
+holds-requires-3 c κs = search needs
 
 returns-3 : tie.Need-returns-3
 returns-3 c = search needs
@@ -43,11 +43,11 @@ pub first-give-spec : {M : Type 1} → statement M
 first-give-spec =
     tie.close
     (tie.spec
-    counted-requires
+    holds-requires
     returns
-    counted-requires-2
+    holds-requires-2
     returns-2
-    counted-requires-3
+    holds-requires-3
     returns-3
     slice-aggregate-all-give
     slice-aggregate-all-give-2

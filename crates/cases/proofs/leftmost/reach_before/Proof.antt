@@ -1,8 +1,8 @@
--- `cases::random_slide::reach_before` is safe and ends: `i` rises to `k`.
+-- `cases::leftmost::reach_before` is safe and ends: `i` rises to `k`.
 use Prim.Native.Nat.{_≤_, _-_}
 use borrow.Author.Needs.{needs}
-use Rattle.cases.proofs.random_slide.reach_before.Statement.{statement}
-use Rattle.cases.proofs.random_slide.reach_before.Tie as tie
+use Rattle.cases.proofs.leftmost.reach_before.Statement.{statement}
+use Rattle.cases.proofs.leftmost.reach_before.Tie as tie
 
 abbrev Inv-loop : tie.InvT-loop
 Inv-loop side dots lengths digits k reach₀ i₀ reach i = i ≤ k

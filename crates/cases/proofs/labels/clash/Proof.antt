@@ -1,26 +1,26 @@
--- `cases::random_slide::are_leftmost` is safe and ends: `i` rises to `n`.
+-- `cases::labels::clash` is safe and ends: `pair` rises to `36`.
 use Prim.Native.Nat.{_≤_, _-_}
 use borrow.Author.Needs.{needs}
-use Rattle.cases.proofs.random_slide.are_leftmost.Statement.{statement}
-use Rattle.cases.proofs.random_slide.are_leftmost.Tie as tie
+use Rattle.cases.proofs.labels.clash.Statement.{statement}
+use Rattle.cases.proofs.labels.clash.Tie as tie
 
 abbrev Inv-loop : tie.InvT-loop
-Inv-loop dots lengths digits n i₀ i = i ≤ n
+Inv-loop model dots lengths n digits pair₀ pair = pair ≤ 36
 
 abbrev μ-loop : tie.MeasureT-loop
-μ-loop dots lengths digits n i₀ i = n - i
+μ-loop model dots lengths n digits pair₀ pair = 36 - pair
 
 loop-holds : tie.Need-loop-holds Inv-loop μ-loop
 loop-holds c = search needs
 
-is-leftmost-requires : tie.Need-is-leftmost-requires Inv-loop μ-loop
-is-leftmost-requires c κs = search needs
+is-wrong-requires : tie.Need-is-wrong-requires Inv-loop μ-loop
+is-wrong-requires c κs = search needs
 
 returns : tie.Need-returns Inv-loop μ-loop
 returns c = search needs
 
-add-i : tie.Need-add-i Inv-loop μ-loop
-add-i c = search needs
+add-pair : tie.Need-add-pair Inv-loop μ-loop
+add-pair c = search needs
 
 loop-less : tie.Need-loop-less Inv-loop μ-loop
 loop-less c = search needs
@@ -31,16 +31,16 @@ loop-again c = search needs
 returns-2 : tie.Need-returns-2 Inv-loop μ-loop
 returns-2 c = search needs
 
-pub are-leftmost-spec : {M : Type 1} → statement M
-are-leftmost-spec =
+pub clash-spec : {M : Type 1} → statement M
+clash-spec =
     tie.close
     (tie.spec
     Inv-loop
     μ-loop
     loop-holds
-    is-leftmost-requires
+    is-wrong-requires
     returns
-    add-i
+    add-pair
     loop-less
     loop-again
     returns-2)
