@@ -1,0 +1,156 @@
+// The listing's bytes, compared whole: strips 4, 6 and 11, no marks, refused jobs, 60 and 61 marks, and 30,000 bytes of input.
+use crate::jobs;
+use crate::tally;
+use tally::Tally;
+
+// The listing of a job must be these bytes.
+fn gives(t: Tally, case: u32, job: &[u8], wanted: &[u8]) -> Tally {
+    let mut text = [0u8; 30000];
+    let got = listing::listing(job, &mut text);
+    let first = tally::same_byte(t, case, got.number, 0);
+    let second = tally::same_count(first, case, got.length, wanted.len());
+    tally::holds(second, case, text_begins(&text, wanted))
+}
+
+fn text_begins(text: &[u8; 30000], wanted: &[u8]) -> bool {
+    tally::begins_with(text, wanted)
+}
+
+// Strips of document 01.
+fn strips(t: Tally) -> Tally {
+    let a = gives(
+        t,
+        401,
+        &jobs::STRIP11,
+        b"marks 5\nfull none\nslide fits\nbest 36 of 38\nout 2\n",
+    );
+    let b = gives(
+        a,
+        402,
+        &[0, 0, 0, 0],
+        b"marks 0\nfull\nslide fits\nbest 0 of 0\nout none\n",
+    );
+    let c = gives(
+        b,
+        403,
+        &[0, 4, 0, 0, 2, 10, 2, 10, 2, 10, 2, 10],
+        b"marks 4\nfull 2 3 1 4\nslide fits\nbest 4 of 4\nout none\n",
+    );
+    gives(
+        c,
+        404,
+        &[
+            0,
+            5,
+            0,
+            0,
+            2,
+            10,
+            6,
+            10,
+            0,
+            9,
+            6,
+            10,
+            0,
+            9,
+            6,
+            10,
+            0,
+            9,
+            6,
+            10,
+            0,
+            9,
+        ],
+        b"marks 5\nfull none\nslide none\nbest 36 of 37\nout 1\n",
+    )
+}
+
+// Refused jobs, an empty input, and 30,000 bytes of input.
+fn refused(t: Tally) -> Tally {
+    let a = gives(t, 411, &[0, 0, 0, 1], b"refused 4\n");
+    let b = gives(a, 412, &[0, 1, 0, 0, 2, 8], b"refused 3\n");
+    let c = gives(b, 413, &[0; 0], b"refused 1\n");
+    gives(c, 414, &[0; 30000], b"refused 5\n")
+}
+
+// Byte `i` of the job of so many marks at each 20th dot, with labels of 8 dots: a header, a record without fields, and records
+// with a step.
+fn spaced_byte(marks: u8, i: usize) -> u8 {
+    if i == 1 {
+        return marks;
+    }
+    if i < 5 {
+        return 0;
+    }
+    let field = (i - 5) % 3;
+    if field == 0 {
+        return 1;
+    }
+    if field == 1 {
+        return 0;
+    }
+    20
+}
+
+fn set_byte(job: &mut [u8; 185], marks: u8, i: usize) {
+    if i < 185 {
+        job[i] = spaced_byte(marks, i);
+    }
+}
+
+// The job of 61 marks has 185 bytes, that of 60 marks 3 less.
+fn set_spaced(job: &mut [u8; 185], marks: u8) {
+    let mut i = 0;
+    while i < 185 {
+        set_byte(job, marks, i);
+        i += 1;
+    }
+}
+
+// The listing of the job in the first `n` bytes.
+fn first_gives(t: Tally, case: u32, job: &[u8], n: usize, wanted: &[u8]) -> Tally {
+    if job.len() < n {
+        return tally::holds(t, case, false);
+    }
+    gives(t, case, &job[..n], wanted)
+}
+
+fn spaced_gives(t: Tally, case: u32, job: &[u8; 185], n: usize, wanted: &[u8]) -> Tally {
+    first_gives(t, case, job, n, wanted)
+}
+
+// 60 marks are the most that slide and best take.
+fn many(t: Tally) -> Tally {
+    let mut job = [0u8; 185];
+    set_spaced(&mut job, 60);
+    let a = spaced_gives(
+        t,
+        421,
+        &job,
+        182,
+        b"marks 60\nfull 2 2 2 2 2 2 2 2 2 2 2 2 2 2 2 2 2 2 2 2 2 2 2 2 2 2 2 2 2 2 2 2 2 2 2 2 2 2 2 2 2 2 2 2 2 2 2 2 2 2 2 2 2 2 2 2 2 2 2 2\nslide fits\nbest 60 of 60\nout none\n",
+    );
+    set_spaced(&mut job, 61);
+    spaced_gives(
+        a,
+        422,
+        &job,
+        185,
+        b"marks 61\nfull 2 2 2 2 2 2 2 2 2 2 2 2 2 2 2 2 2 2 2 2 2 2 2 2 2 2 2 2 2 2 2 2 2 2 2 2 2 2 2 2 2 2 2 2 2 2 2 2 2 2 2 2 2 2 2 2 2 2 2 2 2\nslide refused 7\nbest refused 7\n",
+    )
+}
+
+// An output of the text's length will do, and one byte less is refused with 9.
+fn lent(t: Tally) -> Tally {
+    let exact = listing::listing(&[0, 0, 0, 1], &mut [0; 10]);
+    let a = tally::same_byte(t, 431, exact.number, 0);
+    let short = listing::listing(&[0, 0, 0, 1], &mut [0; 9]);
+    let b = tally::same_byte(a, 432, short.number, 9);
+    tally::same_count(b, 432, short.length, 0)
+}
+
+pub fn listings() -> Tally {
+    lent(many(refused(strips(tally::none_yet()))))
+}

@@ -1,0 +1,57 @@
+// A test program: document 01's strips, each boundary, and random strips against a plain search through all choices. It prints a
+// line for each group, and a line for each case or strip that disagrees.
+mod jobs;
+mod labels;
+mod leftmost;
+mod lent;
+mod listings;
+mod random_best;
+mod random_full;
+mod random_slide;
+mod ranges;
+mod search;
+mod strip;
+mod tally;
+mod worked;
+
+use strip::Draw;
+
+// Strips of up to 6 marks, some one in six of which cannot have a label for every mark.
+fn random_corners() {
+    let draw = Draw {
+        steps: 3,
+        shortest: 1,
+        lengths: 24,
+    };
+    tally::print_random(b"full random", random_full::random(3000, 1, draw));
+    tally::print_random(b"best random", random_best::random(3000, 2, draw));
+}
+
+// Labels of up to 4 dots, with which 6 marks always fit, and of 4 to 7.
+fn random_slides() {
+    let short = Draw {
+        steps: 2,
+        shortest: 1,
+        lengths: 4,
+    };
+    let long = Draw {
+        steps: 2,
+        shortest: 4,
+        lengths: 4,
+    };
+    tally::print_random(b"slide random", random_slide::random(3000, 3, short));
+    tally::print_random(
+        b"slide random, long labels",
+        random_slide::random(3000, 4, long),
+    );
+}
+
+fn main() {
+    tally::print_group(b"worked strips", worked::worked());
+    tally::print_group(b"ranges", ranges::ranges());
+    tally::print_group(b"lent memory", lent::lent());
+    tally::print_group(b"job bytes", jobs::jobs());
+    tally::print_group(b"listings", listings::listings());
+    random_corners();
+    random_slides();
+}
