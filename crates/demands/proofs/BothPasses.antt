@@ -140,8 +140,8 @@ module _ (zs : List ℤ) (ls ws positions : List ℕ) (work : List ℤ) (number 
       }
 
   -- the full pass gives 0
-  pub both-fit : found .number ≡ 0 → number ≡ 0 → BestAgainstFull zs ls ws positions work positions′ work′ entry exit (record { comparable = true; fits = true; sum = found .sum })
-  both-fit e z =
+  pub full-fits : found .number ≡ 0 → number ≡ 0 → BestAgainstFull zs ls ws positions work positions′ work′ entry exit (record { comparable = true; fits = true; sum = found .sum })
+  full-fits e z =
       let v = by-0 z in
       let placed : firstPlacing 0 marks ≡ none → ⊥ = placing-by-0 (firstPlacing 0 marks) (sym (number-is v) ∙ z) in
       record {
@@ -164,8 +164,8 @@ module _ (zs : List ℤ) (ls ws positions : List ℕ) (work : List ℤ) (number 
       }
 
   -- the full pass gives 11
-  pub neither-fits : found .number ≡ 0 → number ≡ 11 → BestAgainstFull zs ls ws positions work positions′ work′ entry exit (record { comparable = true; fits = false; sum = found .sum })
-  neither-fits e z =
+  pub full-finds-none : found .number ≡ 0 → number ≡ 11 → BestAgainstFull zs ls ws positions work positions′ work′ entry exit (record { comparable = true; fits = false; sum = found .sum })
+  full-finds-none e z =
       let v = by-11 z in
       let unplaced : firstPlacing 0 marks ≡ none = none-by-11 (firstPlacing 0 marks) (sym (number-is v) ∙ z) in
       record {

@@ -1,5 +1,5 @@
--- Both round trips of the job bytes: "a job that is accepted, read and written back has the same bytes", and marks that are written and
--- read back are the same marks; "so each list of marks has one job".
+-- Both round trips: a job that is accepted, read and written back has the same bytes; marks that the writer accepts, written and read
+-- back, are the same marks.
 use mathlib.Core.Path.{_≡_}
 use mathlib.Core.List.{List}
 use Prim.Native.Nat.{ℕ, _≤_, _<_, min}

@@ -1,5 +1,5 @@
 -- `demands::compare::best_against_full` meets its contract: each return is what the contracts of the two passes say together.
-use Rattle.demands.proofs.BothPasses.{best-refuses, full-refuses, both-fit, neither-fits}
+use Rattle.demands.proofs.BothPasses.{best-refuses, full-refuses, full-fits, full-finds-none}
 use borrow.Author.Needs.{needs}
 use Rattle.demands.proofs.compare.best_against_full.Statement.{statement}
 use Rattle.demands.proofs.compare.best_against_full.Tie as tie
@@ -44,7 +44,7 @@ same-length-10 : tie.Need-same-length-10
 same-length-10 c = search needs
 
 returns-2 : tie.Need-returns-2
-returns-2 c = both-fit _ _ _ _ _ _ _ _ _ _ _ (c .before .before .before .before .before .before .before .before .before .before .before .before .before .before .before .before .full .ensures) (c .before .before .before .before .before .before .before .before .before .best .ensures) (c .before .if1 .left) (c .if2 .taken)
+returns-2 c = full-fits _ _ _ _ _ _ _ _ _ _ _ (c .before .before .before .before .before .before .before .before .before .before .before .before .before .before .before .before .full .ensures) (c .before .before .before .before .before .before .before .before .before .best .ensures) (c .before .if1 .left) (c .if2 .taken)
 
 same-length-11 : tie.Need-same-length-11
 same-length-11 c = search needs
@@ -62,7 +62,7 @@ same-length-15 : tie.Need-same-length-15
 same-length-15 c = search needs
 
 returns-3 : tie.Need-returns-3
-returns-3 c = neither-fits _ _ _ _ _ _ _ _ _ _ _ (c .before .before .before .before .before .before .before .before .before .before .before .before .before .before .before .before .before .full .ensures) (c .before .before .before .before .before .before .before .before .before .before .best .ensures) (c .before .before .if1 .left) (c .if3 .taken)
+returns-3 c = full-finds-none _ _ _ _ _ _ _ _ _ _ _ (c .before .before .before .before .before .before .before .before .before .before .before .before .before .before .before .before .before .full .ensures) (c .before .before .before .before .before .before .before .before .before .before .best .ensures) (c .before .before .if1 .left) (c .if3 .taken)
 
 same-length-16 : tie.Need-same-length-16
 same-length-16 c = search needs
