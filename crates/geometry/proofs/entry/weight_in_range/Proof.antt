@@ -4,10 +4,10 @@ use Rattle.geometry.proofs.entry.weight_in_range.Statement.{statement}
 use Rattle.geometry.proofs.entry.weight_in_range.Tie as tie
 
 returns : tie.Need-returns
-returns c = simp (le-leb _ _ (c .if1 .taken))
+returns c = simp (le-leb 1 _ (c .if1 .taken))
 
 returns-2 : tie.Need-returns-2
-returns-2 c = simp (lt-leb _ _ (c .if1 .left))
+returns-2 c = simp (lt-leb 1 _ (c .if1 .left))
 
 pub weight-in-range-spec : {M : Type 1} → statement M
 weight-in-range-spec = tie.close (tie.spec returns returns-2)
