@@ -16,7 +16,7 @@ use Rattle.geometry.specs.Overlap.{leftEnd, rightEnd}
 use Rattle.geometry.specs.inner.At.{markAt}
 use Rattle.geometry.proofs.Split.{lt-or-ge}
 use Rattle.geometry.proofs.Accepted.{length-marks, marks-from}
-use Rattle.full.specs.inner.Row.{candidates, greatest, rowOf, countOf, four, rowBefore, KeptBefore}
+use Rattle.full.specs.inner.Row.{candidates, greatest, rowOf, countOf, four, rowBefore, Counted}
 use Rattle.full.specs.inner.Table.{rowAt, IsRow, RowsFrom, Ready, Filled}
 
 -- the last mark leaves no bound
@@ -43,7 +43,7 @@ before m n rest next e =
 
 pub row-before : (zs : List ℤ) (ls : List ℕ) (k : ℕ) (next reaches : List ℤ) (count : ℕ) → length zs ≡ length ls → k + 1 < length zs
     → IsRow zs ls (k + 1) (four next)
-    → KeptBefore (dot (getD zs k (pos 0))) (getD ls k 0) (dot (getD zs (k + 1) (pos 0))) (getD ls (k + 1) 0) next reaches count
+    → Counted (rowBefore (dot (getD zs k (pos 0))) (getD ls k 0) (dot (getD zs (k + 1) (pos 0))) (getD ls (k + 1) 0) next) reaches count
     → IsRow zs ls k (four reaches) × ((ws : List ℕ) → length zs ≡ length ws → count ≡ countOf (rowOf 0 (markAt zs ls ws k) (drop (k + 1) (marksOf zs ls ws))))
 row-before zs ls k next reaches count same few row kept = (
   λ ws same′. kept .reaches-are ∙ step ws same′,
@@ -108,7 +108,7 @@ filling-last zs ls work work′ reaches k ready last e stored =
 
 -- one mark more
 pub filling-more : (zs : List ℤ) (ls : List ℕ) (work₀ work next reaches : List ℤ) (count count′ i k : ℕ) (work′ : List ℤ) → Filling zs ls work₀ work next count i → k + 1 ≡ i
-    → KeptBefore (dot (getD zs k (pos 0))) (getD ls k 0) (dot (getD zs i (pos 0))) (getD ls i 0) next reaches count′
+    → Counted (rowBefore (dot (getD zs k (pos 0))) (getD ls k 0) (dot (getD zs i (pos 0))) (getD ls i 0) next) reaches count′
     → work′ ≡ sets work (4 * k) (four reaches) → Filling zs ls work₀ work′ reaches count′ k
 filling-more zs ls work₀ work next reaches count count′ i k work′ f e kept stored =
     let few = f .ready .few in

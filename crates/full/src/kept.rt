@@ -2,11 +2,12 @@
 // marks can still be placed.
 ghost use mathlib.Core.Path.{_≡_};
 ghost use mathlib.Core.Bool.{true, cond};
+ghost use mathlib.Core.List.{[], _∷_};
 ghost use Prim.Native.Nat.{_≤_};
 ghost use lib.Dec.{leb};
 ghost use Rattle.geometry.specs.Dot.{dot};
 ghost use Rattle.geometry.specs.Mark.{placeInRange};
-ghost use Rattle.full.specs.inner.Row.{candidates, keptOne, KeptBefore};
+ghost use Rattle.full.specs.inner.Row.{candidates, besideAbove, besideBelow, keptOne, rowBefore, Counted};
 use geometry::ends::left_end;
 use geometry::ends::right_end;
 use geometry::order::at_most;
@@ -54,6 +55,39 @@ fn greatest(
     )
 }
 
+// The greatest reach below beside a label above that ends at `reach`, when the next mark, whose label to the left begins at `left`,
+// is kept as `next`.
+fn beside_above(reach: i16, place: i16, left: i16, next: Kept) -> i16
+    ensures { λ r. ⌜ dot r ≡ besideAbove (dot reach) (dot left) (dot place) (next .reaches) ⌝ }
+{
+    let reaches = next.reaches;
+    greatest(
+        reach,
+        place,
+        left,
+        reaches[0],
+        reaches[2],
+        reaches[1],
+        reaches[3],
+    )
+}
+
+// The same with the sides exchanged.
+fn beside_below(reach: i16, place: i16, left: i16, next: Kept) -> i16
+    ensures { λ r. ⌜ dot r ≡ besideBelow (dot reach) (dot left) (dot place) (next .reaches) ⌝ }
+{
+    let reaches = next.reaches;
+    greatest(
+        reach,
+        place,
+        left,
+        reaches[1],
+        reaches[3],
+        reaches[0],
+        reaches[2],
+    )
+}
+
 // 1 if a part layout is kept, else 0.
 fn one_if_kept(reach: i16) -> u8
     ensures { λ r. ⌜ (r ≡ keptOne (dot reach)) × (r ≤ 1) ⌝ }
@@ -61,56 +95,27 @@ fn one_if_kept(reach: i16) -> u8
     if reach == NONE { 0 } else { 1 }
 }
 
-// The kept part layouts of a mark from those of the next one.
-pub fn kept_before(place: i16, length: u8, next_place: i16, next_length: u8, next: Kept) -> Kept
-    requires { ⌜ (placeInRange place ≡ true) × (placeInRange «next_place» ≡ true) ⌝ }
-    ensures { λ r. ⌜ KeptBefore (dot place) length (dot «next_place») «next_length» (next .reaches) (r .reaches) (r .count) ⌝ }
+// The four reaches and their count.
+fn counted(first: i16, second: i16, third: i16, fourth: i16) -> Kept
+    ensures { λ r. ⌜ Counted (dot first ∷ dot second ∷ dot third ∷ dot fourth ∷ []) (r .reaches) (r .count) ⌝ }
 {
-    let left = left_end(next_place, next_length);
-    let right = right_end(place, length);
-    let reaches = next.reaches;
-    let above_left = reaches[0];
-    let below_left = reaches[1];
-    let above_right = reaches[2];
-    let below_right = reaches[3];
-    let first = greatest(
-        place,
-        next_place,
-        left,
-        above_left,
-        above_right,
-        below_left,
-        below_right,
-    );
-    let second = greatest(
-        place,
-        next_place,
-        left,
-        below_left,
-        below_right,
-        above_left,
-        above_right,
-    );
-    let third = greatest(
-        right,
-        next_place,
-        left,
-        above_left,
-        above_right,
-        below_left,
-        below_right,
-    );
-    let fourth = greatest(
-        right,
-        next_place,
-        left,
-        below_left,
-        below_right,
-        above_left,
-        above_right,
-    );
     Kept {
         reaches: [first, second, third, fourth],
         count: one_if_kept(first) + one_if_kept(second) + one_if_kept(third) + one_if_kept(fourth),
     }
+}
+
+// The kept part layouts of a mark from those of the next one.
+pub fn kept_before(place: i16, length: u8, next_place: i16, next_length: u8, next: Kept) -> Kept
+    requires { ⌜ (placeInRange place ≡ true) × (placeInRange «next_place» ≡ true) ⌝ }
+    ensures { λ r. ⌜ Counted (rowBefore (dot place) length (dot «next_place») «next_length» (next .reaches)) (r .reaches) (r .count) ⌝ }
+{
+    let left = left_end(next_place, next_length);
+    let right = right_end(place, length);
+    counted(
+        beside_above(place, next_place, left, next),
+        beside_below(place, next_place, left, next),
+        beside_above(right, next_place, left, next),
+        beside_below(right, next_place, left, next),
+    )
 }

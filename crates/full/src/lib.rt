@@ -37,8 +37,8 @@ pub fn full(
     if refused != 0 {
         return refused;
     }
-    let first = table::fill(places, lengths, work);
-    if first.count == 0 {
+    let kept = table::fill(places, lengths, work);
+    if kept == 0 {
         table::clear(work, WORK);
         return NO_PLACING;
     }

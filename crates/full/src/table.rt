@@ -25,18 +25,18 @@ fn store(work: &mut [i16], i: usize, kept: Kept)
     work[at + 3] = reaches[3];
 }
 
-// Fills the table from the last mark to the first and returns the kept part layouts of the first mark, or those of an empty
-// strip, which has nothing left to place.
-pub fn fill(places: &[i16], lengths: &[u8], work: &mut [i16]) -> Kept
+// Fills the table from the last mark to the first and returns the count of the first mark's kept part layouts; an empty strip,
+// which has nothing left to place, counts as one that keeps all four.
+pub fn fill(places: &[i16], lengths: &[u8], work: &mut [i16]) -> u8
     requires { ⌜ Ready (now places) (now lengths) (now work) ⌝ }
-    ensures { λ r. ⌜ Filled (now (places .entry)) (now (lengths .entry)) (now (work .entry)) (now (work .exit)) (r .count) ⌝ }
+    ensures { λ r. ⌜ Filled (now (places .entry)) (now (lengths .entry)) (now (work .entry)) (now (work .exit)) r ⌝ }
 {
     let mut next = Kept {
         reaches: [NO_BOUND, NO_BOUND, NO_BOUND, NO_BOUND],
         count: 4,
     };
     if places.len() == 0 {
-        return next;
+        return next.count;
     }
     let mut i = places.len() - 1;
     store(work, i, next);
@@ -45,7 +45,7 @@ pub fn fill(places: &[i16], lengths: &[u8], work: &mut [i16]) -> Kept
         i -= 1;
         store(work, i, next);
     }
-    next
+    next.count
 }
 
 // Sets the first n numbers to 0.

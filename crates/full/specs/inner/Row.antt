@@ -47,19 +47,21 @@ countOf (x ∷ xs) = keptOne x + countOf xs
 abbrev pub four : List ℤ → List ℤ
 four xs = getD xs 0 (pos 0) ∷ getD xs 1 (pos 0) ∷ getD xs 2 (pos 0) ∷ getD xs 3 (pos 0) ∷ []
 
--- the row of a mark at x with length l from the row, as signed numbers, of the next mark at y with length k
+-- the same from the row, as signed numbers, of the next mark: beside a label above, and beside one below
+abbrev pub besideAbove : ℕ → ℕ → ℕ → List ℤ → ℕ
+besideAbove t left right next =
+    candidates t left right (dot (getD next 0 (pos 0))) (dot (getD next 2 (pos 0))) (dot (getD next 1 (pos 0))) (dot (getD next 3 (pos 0)))
+
+abbrev pub besideBelow : ℕ → ℕ → ℕ → List ℤ → ℕ
+besideBelow t left right next =
+    candidates t left right (dot (getD next 1 (pos 0))) (dot (getD next 3 (pos 0))) (dot (getD next 0 (pos 0))) (dot (getD next 2 (pos 0)))
+
+-- the row of a mark at x with length l from the row of the next mark, at y with length k
 abbrev pub rowBefore : ℕ → ℕ → ℕ → ℕ → List ℤ → List ℕ
 rowBefore x l y k next =
-    let al = dot (getD next 0 (pos 0)) in
-    let bl = dot (getD next 1 (pos 0)) in
-    let ar = dot (getD next 2 (pos 0)) in
-    let br = dot (getD next 3 (pos 0)) in
-    candidates x (y - k) y al ar bl br
-    ∷ candidates x (y - k) y bl br al ar
-    ∷ candidates (x + l) (y - k) y al ar bl br
-    ∷ candidates (x + l) (y - k) y bl br al ar
-    ∷ []
+    besideAbove x (y - k) y next ∷ besideBelow x (y - k) y next ∷ besideAbove (x + l) (y - k) y next ∷ besideBelow (x + l) (y - k) y next ∷ []
 
-pub record KeptBefore (x l y k : ℕ) (next reaches : List ℤ) (count : ℕ) : Type 0 where
-  pub reaches-are : map dot (four reaches) ≡ rowBefore x l y k next
-  pub count-is : count ≡ countOf (rowBefore x l y k next)
+-- kept part layouts with these reaches, as dots
+pub record Counted (row : List ℕ) (reaches : List ℤ) (count : ℕ) : Type 0 where
+  pub reaches-are : map dot (four reaches) ≡ row
+  pub count-is : count ≡ countOf row
