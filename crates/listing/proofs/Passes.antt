@@ -7,12 +7,12 @@ use mathlib.Core.Option.{Option, none, some}
 use Prim.Native.Nat.{ℕ, zero, suc, _+_, _≤_, _<_, min}
 use native.Mathlib.Omega.{arith}
 use native.Mathlib.Numerals.{add-one}
-use lib.Dec.{leb}
+use lib.Dec.{leb, eqb}
 use lib.IntN.{ℤ}
 use native.Mathlib.Nat.{le-of-eq}
 use lib.ListN.{length, replicate, length-replicate, getD, take, drop, length-map, drop-of-length-le}
 use lib.Seq.{take-at, drop-cons}
-use borrow.Author.Tests.{le-leb, eq-eqb}
+use borrow.Author.Tests.{le-leb, eq-eqb, ne-eqb}
 use Rattle.geometry.specs.Lists.{sumList}
 use Rattle.geometry.specs.Mark.{Mark, marksOf}
 use Rattle.geometry.specs.Position.{Position, code}
@@ -29,7 +29,7 @@ use Rattle.geometry.proofs.Whole.{found-placing}
 use Rattle.geometry.proofs.WholeEdges.{whole-slides, none-slides}
 use Rattle.full.specs.Full.{FullContract, fullVerdict, positionsAfter}
 use Rattle.slide.specs.SlidePass.{SlidePass, Lent, verdictOf}
-use Rattle.listing.specs.Text.{fullWord, noneWord, lineEnd, fullTail, fullLine, slideWord, fitsWord, slideLine, outWord, outLine, spaced}
+use Rattle.listing.specs.Text.{fullWord, noneWord, lineEnd, fullTail, fullLine, outWord, outLine, spaced}
 use Rattle.listing.specs.inner.Append.{Appended}
 
 -- a piece by another name
@@ -97,7 +97,7 @@ module _ (zs : List ℤ) (ls ws : List ℕ) (positions : List ℕ) (work : List 
       let used : take (length zs) positions′ ≡ map code (p .0) = ap (take (length zs)) listed ∙ take-at (map code (p .0)) (drop (length (map code (p .0))) positions) (length zs) long in
       ap (λ (xs : List ℕ). fullWord ++ spaced xs ++ lineEnd) used ∙ ap (λ (o : Option (List Position)). fullWord ++ fullTail o ++ lineEnd) (sym (p .1))
 
--- the slide pass: a number other than 0 says "none", and 0 "fits"
+-- the slide pass: 0 says that the strip fits, and any other number that it does not
 module _ (zs : List ℤ) (ls ws : List ℕ) (before after : Lent) (n : ℕ) (call : SlidePass zs ls ws before after n)
     (strip : entry 60 zs ls ws ≡ accepted) (passed : verdictOf zs ls ws before ≡ accepted) where
   abbrev strip-marks : List Mark
@@ -116,11 +116,9 @@ module _ (zs : List ℤ) (ls ws : List ℕ) (before after : Lent) (n : ℕ) (cal
       by-bool (slidesWhole 0 strip-marks) (λ t. slidesWhole 0 strip-marks ≡ t → slidesWhole 0 strip-marks ≡ true) (λ _ e. e)
       (λ _ e. absurd (omega (arith, a .none-exactly .1 (none-slides 0 strip-marks rise e)))) refl
 
-  pub slide-none : (n ≡ 0 → ⊥) → slideWord ++ noneWord ++ lineEnd ≡ slideLine (slidesWhole 0 strip-marks)
-  slide-none z = ap slideLine (sym (slide-misses z))
-
-  pub slide-fits : n ≡ 0 → slideWord ++ fitsWord ++ lineEnd ≡ slideLine (slidesWhole 0 strip-marks)
-  slide-fits z = ap slideLine (sym (slide-holds z))
+  pub slide-told : eqb n 0 ≡ slidesWhole 0 strip-marks
+  slide-told =
+      ⊎-elim (λ (e : n ≡ 0). eq-eqb n 0 e ∙ sym (slide-holds e)) (λ (e : n ≡ 11). ne-eqb n 0 (λ z. omega arith) ∙ sym (slide-misses (λ z. omega arith))) (call .where-accepted passed .answer)
 
 -- the sum of a list, one number after the other
 pub sum-step : (xs : List ℕ) (i : ℕ) → i < length xs → sumList (drop i xs) ≡ getD xs i 0 + sumList (drop (i + 1) xs)

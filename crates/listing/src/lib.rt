@@ -24,7 +24,8 @@ fn put_strip(places: &[i16], lengths: &[u8], weights: &[u16], text: &mut [u8], a
     if 60 < places.len() {
         return lines::put_too_long(text, full);
     }
-    let slide = lines::put_slide(places, lengths, weights, text, full);
+    let slides = lines::slides(places, lengths, weights);
+    let slide = lines::put_slide(text, full, slides);
     lines::put_best(places, lengths, weights, text, slide)
 }
 

@@ -1,18 +1,30 @@
 // The lines of a strip, each over the contract of the pass that it prints.
 ghost use mathlib.Core.Path.{_≡_};
 ghost use mathlib.Core.List.{_++_};
-ghost use Prim.Native.Nat.{_+_, _≤_};
+ghost use Prim.Native.Nat.{_+_, _*_, _≤_};
 ghost use lib.ListN.{length, take};
 ghost use Rattle.geometry.specs.Lists.{sumList};
 ghost use Rattle.geometry.specs.Mark.{marksOf};
 ghost use Rattle.geometry.specs.Sliding.{slidesWhole};
-ghost use Rattle.listing.specs.Text.{decimal, fullLine, slideLine, bestLine, outLine, tooLongLines, refusedWord, lineEnd, marksLine};
+ghost use Rattle.geometry.specs.Refusal.{accepted};
+ghost use Rattle.geometry.specs.Entry.{entry};
+ghost use Rattle.listing.specs.Text.{decimal, spaced, fullWord, fullLine, slideLine, bestLine, outLine, tooLongLines, refusedWord, lineEnd, marksLine};
 ghost use Rattle.listing.specs.inner.Append.{Appended};
 ghost use Rattle.listing.specs.inner.Lines.{Ready, BestLines};
 use crate::text::put_marks;
 use crate::text::put_number;
 use crate::text::put_positions;
 use crate::text::put_word;
+
+// "full" and the first `count` positions, each after a space.
+fn put_placing(text: &mut [u8], at: usize, positions: &[u8], count: usize) -> usize
+    requires { ⌜ (count ≤ length (now positions)) × (at + (6 * count + 5) ≤ length (now text)) ⌝ }
+    ensures { λ r. ⌜ Appended (now (text .entry)) at (fullWord ++ spaced (take count (now (positions .entry))) ++ lineEnd) (now (text .exit)) r ⌝ }
+{
+    let word = put_word(text, at, b"full");
+    let listed = put_positions(text, word, positions, count);
+    put_word(text, listed, b"\n")
+}
 
 // "full" and the positions, each after a space, or "none".
 pub fn put_full(
@@ -27,38 +39,32 @@ pub fn put_full(
 {
     let mut positions = [0u8; 4000];
     let mut work = [0i16; 20000];
-    let number = full::full(places, lengths, weights, &mut positions, &mut work);
-    let word = put_word(text, at, b"full");
-    if number != 0 {
-        let none = put_word(text, word, b" none");
-        return put_word(text, none, b"\n");
+    if full::full(places, lengths, weights, &mut positions, &mut work) != 0 {
+        return put_word(text, at, b"full none\n");
     }
-    let listed = put_positions(text, word, &positions, places.len());
-    put_word(text, listed, b"\n")
+    put_placing(text, at, &positions, places.len())
 }
 
-// "slide" and "fits" or "none".
-pub fn put_slide(
-    places: &[i16],
-    lengths: &[u8],
-    weights: &[u16],
-    text: &mut [u8],
-    at: usize,
-) -> usize
-    requires { ⌜ Ready 60 (now places) (now lengths) (now weights) (now text) at 11 ⌝ }
-    ensures { λ r. ⌜ Appended (now (text .entry)) at (slideLine (slidesWhole 0 (marksOf (now (places .entry)) (now (lengths .entry)) (now (weights .entry))))) (now (text .exit)) r ⌝ }
+// Whether the strip fits with sliding labels.
+pub fn slides(places: &[i16], lengths: &[u8], weights: &[u16]) -> bool
+    requires { ⌜ entry 60 (now places) (now lengths) (now weights) ≡ accepted ⌝ }
+    ensures { λ r. ⌜ r ≡ slidesWhole 0 (marksOf (now (places .entry)) (now (lengths .entry)) (now (weights .entry))) ⌝ }
 {
     let mut sides = [0u8; 60];
     let mut edges = [0i16; 60];
     let mut work = [0u16; 30000];
-    let number = slide::slide(places, lengths, weights, &mut sides, &mut edges, &mut work);
-    let word = put_word(text, at, b"slide ");
-    if number != 0 {
-        let none = put_word(text, word, b"none");
-        return put_word(text, none, b"\n");
+    slide::slide(places, lengths, weights, &mut sides, &mut edges, &mut work) == 0
+}
+
+// "slide" and "fits" or "none".
+pub fn put_slide(text: &mut [u8], at: usize, fits: bool) -> usize
+    requires { ⌜ at + 11 ≤ length (now text) ⌝ }
+    ensures { λ r. ⌜ Appended (now (text .entry)) at (slideLine fits) (now (text .exit)) r ⌝ }
+{
+    if fits {
+        return put_word(text, at, b"slide fits\n");
     }
-    let fits = put_word(text, word, b"fits");
-    put_word(text, fits, b"\n")
+    put_word(text, at, b"slide none\n")
 }
 
 // The sum of the weights of at most 60 marks.
@@ -92,11 +98,10 @@ fn put_out(text: &mut [u8], at: usize, left_out: &[u16], count: usize) -> usize
     requires { ⌜ (count ≤ 60) × (count ≤ length (now «left_out»)) × (at + 370 ≤ length (now text)) ⌝ }
     ensures { λ r. ⌜ Appended (now (text .entry)) at (outLine (take count (now («left_out» .entry)))) (now (text .exit)) r ⌝ }
 {
-    let word = put_word(text, at, b"out");
     if count == 0 {
-        let none = put_word(text, word, b" none");
-        return put_word(text, none, b"\n");
+        return put_word(text, at, b"out none\n");
     }
+    let word = put_word(text, at, b"out");
     let listed = put_marks(text, word, left_out, count);
     put_word(text, listed, b"\n")
 }

@@ -5,8 +5,7 @@ use native.Mathlib.Omega.{arith}
 use lib.ListN.{take}
 use Rattle.listing.specs.Text.{outLine}
 use Rattle.listing.proofs.Append.{appended-join, spaced-short}
-use Rattle.listing.proofs.Passes.{appended-is}
-use Rattle.listing.proofs.Passes.{out-some}
+use Rattle.listing.proofs.Passes.{appended-is, out-some}
 use borrow.Author.Needs.{needs}
 use Rattle.listing.proofs.lines.put_out.Statement.{statement}
 use Rattle.listing.proofs.lines.put_out.Tie as tie
@@ -21,43 +20,35 @@ slice-aggregate-put-word c = search needs
 put-word-requires : tie.Need-put-word-requires
 put-word-requires c κs = search needs
 
+same-length : tie.Need-same-length
+same-length c = search needs
+
+returns : tie.Need-returns
+returns c = appended-is (c .before .before .put-word .ensures) (ap (λ (n : ℕ). outLine (take n (c .before .before .before .before .before .before .before .before .args .left-out .now))) (sym (c .before .before .before .before .before .if1 .taken)))
+
 slice-aggregate-put-word-2 : tie.Need-slice-aggregate-put-word-2
 slice-aggregate-put-word-2 c = search needs
 
 put-word-requires-2 : tie.Need-put-word-requires-2
 put-word-requires-2 c κs = search needs
 
+put-marks-requires : tie.Need-put-marks-requires
+put-marks-requires c κs = search needs
+
 slice-aggregate-put-word-3 : tie.Need-slice-aggregate-put-word-3
 slice-aggregate-put-word-3 c = search needs
 
 put-word-requires-3 : tie.Need-put-word-requires-3
-put-word-requires-3 c κs = search needs
-
-same-length : tie.Need-same-length
-same-length c = search needs
-
-returns : tie.Need-returns
-returns c =
-    appended-is (appended-join (appended-join (c .before .before .before .before .before .before .before .before .before .before .before .before .before .put-word .ensures) (c .before .before .before .before .before .before .before .put-word2 .ensures)) (c .before .before .put-word3 .ensures))
-    (ap (λ (n : ℕ). outLine (take n (c .before .before .before .before .before .before .before .before .before .before .before .before .before .before .before .before .before .before .args .left-out .now))) (sym (c .before .before .before .before .before .before .before .before .before .before .if1 .taken)))
-
-put-marks-requires : tie.Need-put-marks-requires
-put-marks-requires c κs = search needs
-
-slice-aggregate-put-word-4 : tie.Need-slice-aggregate-put-word-4
-slice-aggregate-put-word-4 c = search needs
-
-put-word-requires-4 : tie.Need-put-word-requires-4
-put-word-requires-4 c κs =
-    omega (arith, c .before .before .before .before .put-marks .ensures .next-is, c .before .before .before .before .put-marks .kept .0, spaced-short (c .before .before .before .before .before .before .before .before .before .before .before .before .before .before .args .count) (c .before .before .before .before .before .before .before .before .before .before .before .before .before .before .args .left-out .now), c .before .before .before .before .before .before .before .before .before .put-word .ensures .next-is, c .before .before .before .before .before .before .before .before .before .put-word .kept .0)
+put-word-requires-3 c κs =
+    omega (arith, c .before .before .before .before .put-marks .ensures .next-is, c .before .before .before .before .put-marks .kept .0, spaced-short (c .before .before .before .before .before .before .before .before .before .before .before .before .before .before .args .count) (c .before .before .before .before .before .before .before .before .before .before .before .before .before .before .args .left-out .now), c .before .before .before .before .before .before .before .before .put-word2 .ensures .next-is, c .before .before .before .before .before .before .before .before .put-word2 .kept .0)
 
 same-length-2 : tie.Need-same-length-2
 same-length-2 c = search needs
 
 returns-2 : tie.Need-returns-2
 returns-2 c =
-    appended-is (appended-join (appended-join (c .before .before .before .before .before .before .before .before .before .before .before .before .put-word .ensures) (c .before .before .before .before .before .before .before .put-marks .ensures)) (c .before .before .put-word4 .ensures))
-    (out-some (c .before .before .before .before .before .before .before .before .before .before .before .before .before .before .before .before .before .args .count) (c .before .before .before .before .before .before .before .before .before .before .before .before .before .before .before .before .before .args .left-out .now) (omega arith) (c .before .before .before .before .before .before .before .before .before .if1 .left))
+    appended-is (appended-join (appended-join (c .before .before .before .before .before .before .before .before .before .before .before .put-word2 .ensures) (c .before .before .before .before .before .before .before .put-marks .ensures)) (c .before .before .put-word3 .ensures))
+    (out-some (c .before .before .before .before .before .before .before .before .before .before .before .before .before .before .before .before .before .args .count) (c .before .before .before .before .before .before .before .before .before .before .before .before .before .before .before .before .before .args .left-out .now) (omega arith) (c .before .before .before .before .before .before .before .before .before .before .before .before .before .before .if1 .left))
 
 pub put-out-spec : {M : Type 1} → statement M
 put-out-spec =
@@ -65,14 +56,12 @@ put-out-spec =
     (tie.spec
     slice-aggregate-put-word
     put-word-requires
-    slice-aggregate-put-word-2
-    put-word-requires-2
-    slice-aggregate-put-word-3
-    put-word-requires-3
     same-length
     returns
+    slice-aggregate-put-word-2
+    put-word-requires-2
     put-marks-requires
-    slice-aggregate-put-word-4
-    put-word-requires-4
+    slice-aggregate-put-word-3
+    put-word-requires-3
     same-length-2
     returns-2)
