@@ -6,6 +6,8 @@ mod table;
 mod walk;
 
 use answer::Best;
+use geometry::entry::check_pass;
+use geometry::order::smaller;
 ghost use mathlib.Core.List.{map};
 ghost use mathlib.Core.Path.{_≡_};
 ghost use Prim.Native.Nat.{_≤_};
@@ -51,8 +53,8 @@ pub fn best(
 ) -> Best
     ensures { λ r. ⌜ BestContract (now (places .entry)) (now (lengths .entry)) (now (weights .entry)) (lent (now (positions .entry)) (now («left_out» .entry)) (now (work .entry))) (lent (now (positions .exit)) (now («left_out» .exit)) (now (work .exit))) r ⌝ }
 {
-    let shortest = memory::smaller(positions.len(), left_out.len());
-    let number = geometry::entry::check_pass(
+    let shortest = smaller(positions.len(), left_out.len());
+    let number = check_pass(
         places,
         lengths,
         weights,

@@ -18,6 +18,7 @@ use crate::field::BYTES_END;
 use crate::field::OUT_OF_RANGE;
 use crate::field::number_at;
 use crate::record::read_record;
+use geometry::order::smaller;
 
 const BYTES_LEFT_OVER: u8 = 5;
 
@@ -136,19 +137,8 @@ pub fn read(job: &[u8], places: &mut [i16], lengths: &mut [u8], weights: &mut [u
         };
     }
     let count = header.count;
-    if places.len() < count {
-        return Read {
-            number: LIST_TOO_SHORT,
-            count: 0,
-        };
-    }
-    if lengths.len() < count {
-        return Read {
-            number: LIST_TOO_SHORT,
-            count: 0,
-        };
-    }
-    if weights.len() < count {
+    let shortest = smaller(places.len(), smaller(lengths.len(), weights.len()));
+    if shortest < count {
         return Read {
             number: LIST_TOO_SHORT,
             count: 0,

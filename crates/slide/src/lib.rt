@@ -4,6 +4,8 @@ mod lent;
 mod table;
 mod walk;
 
+use geometry::entry::check_pass;
+use geometry::order::smaller;
 ghost use Rattle.slide.specs.SlidePass.{SlidePass};
 ghost use Rattle.slide.specs.inner.Answer.{AnswerReady, Answer};
 
@@ -47,8 +49,8 @@ pub fn slide(
 ) -> u8
     ensures { λ r. ⌜ SlidePass (now (places .entry)) (now (lengths .entry)) (now (weights .entry)) (record { sides = now (sides .entry); edges = now (edges .entry); work = now (work .entry) }) (record { sides = now (sides .exit); edges = now (edges .exit); work = now (work .exit) }) r ⌝ }
 {
-    let shortest = lent::smaller(sides.len(), edges.len());
-    let number = geometry::entry::check_pass(
+    let shortest = smaller(sides.len(), edges.len());
+    let number = check_pass(
         places,
         lengths,
         weights,
