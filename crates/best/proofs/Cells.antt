@@ -13,8 +13,8 @@ use Rattle.geometry.specs.Position.{Side, above, below, Direction, leftward, ri
 use Rattle.geometry.specs.inner.Machine.{nextAbove, nextBelow}
 use Rattle.geometry.proofs.Accepted.{marks-from}
 use Rattle.best.specs.inner.Worth.{earnedBy, worth}
-use Rattle.best.specs.inner.Names.{markAt, nameOf, reachNamed, aboveNamed, belowNamed, Known}
-use Rattle.best.specs.inner.Table.{cellOf, cellAfter, cellWorth, Partly, Strip, Beside, Light, roomAt, gainAt}
+use Rattle.best.specs.inner.Names.{markAt, nameOf, reachNamed, aboveNamed, belowNamed, Known, Reaches}
+use Rattle.best.specs.inner.Table.{cellOf, cellAfter, cellWorth, Partly, Strip, Ready, Beside, Light, roomAt, gainAt}
 use Rattle.best.proofs.Names.{above-named, below-named}
 
 name-small : (k : ℕ) (d : Direction) → k < 60 → nameOf k d < 122
@@ -101,15 +101,16 @@ module _ (g : ℕ) (zs : List ℤ) (ls ws : List ℕ) (k : ℕ) (same-lengths : 
         ∙ worth-from x y above-before below-before
 
 -- what `has_room` and `gain` ask
-module _ (zs : List ℤ) (ls ws work : List ℕ) (k x y : ℕ) (strip : Strip zs ls ws work) (beside : Beside zs k x y) where
-  pub room-asked : Known zs ls x × (Known zs ls y × ((k < length zs) × (k < 60)))
+module _ (zs : List ℤ) (ls ws : List ℕ) (reaches : List ℤ) (work : List ℕ) (k x y : ℕ) (ready : Ready zs ls ws reaches work) (beside : Beside zs k x y) where
+  pub room-asked : Known zs ls x × (Known zs ls y × (Reaches zs ls reaches × ((k < length zs) × (k < 60))))
   room-asked =
+      let strip = ready .strip in
       let known : (name : ℕ) → name / 2 ≤ length zs → Known zs ls name =
       λ name h. record { same-lengths = strip .same-lengths; places-good = strip .places-good; within = h } in
-      (known x (omega arith), (known y (omega arith), (beside .in-strip, omega arith)))
+      (known x (omega arith), (known y (omega arith), (ready .reaches-known, (beside .in-strip, omega arith))))
 
   pub gain-asked : Light work k x y → (k < length ws) × ((k < 60) × (((x < 122) × (y < 122)) × ((15000 ≤ length work) × Light work k x y)))
-  gain-asked light = (omega arith, (omega arith, (omega arith, (strip .roomy, light))))
+  gain-asked light = let strip = ready .strip in (omega arith, (omega arith, (omega arith, (strip .roomy, light))))
 
 -- a test has decided
 pub where-room : {r t : Bool} (v w : ℕ) → r ≡ t → r ≡ true → v ≡ w → v ≡ cond t w 0
@@ -135,3 +136,6 @@ strip-again work new s e =
       weights-good = s .weights-good;
       roomy = omega arith;
     }
+
+pub ready-again : {zs : List ℤ} {ls ws : List ℕ} {reaches : List ℤ} (work new : List ℕ) → Ready zs ls ws reaches work → length new ≡ length work → Ready zs ls ws reaches new
+ready-again work new r e = record { strip = strip-again work new (r .strip) e; reaches-known = r .reaches-known }

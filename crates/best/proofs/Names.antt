@@ -1,19 +1,21 @@
 -- Names of labels and the ends that they stand for.
 use mathlib.Core.Path.{_≡_, refl, sym, _∙_, ap}
-use mathlib.Core.Bool.{Bool}
 use mathlib.Core.List.{List}
+use mathlib.Core.Logic.{⊎-elim}
 use Prim.Native.Nat.{ℕ, _+_, _-_, _/_, _%_, _≤_, _<_}
 use native.Mathlib.Omega.{arith}
-use lib.Dec.{leb}
 use lib.IntN.{ℤ, pos}
-use lib.ListN.{getD}
+use lib.ListN.{length, getD, set}
+use lib.Seq.{getD-set-same, getD-set-other}
 use borrow.Author.Tests.{lt-ltb, le-ltb, eq-eqb, ne-eqb}
 use Rattle.geometry.specs.Dot.{dot}
-use Rattle.geometry.specs.Position.{Side, above, below, Direction, leftward, rightward, Position, unlabelled, at, ownReach}
+use Rattle.geometry.specs.Mark.{Mark}
+use Rattle.geometry.specs.Position.{above, below, Direction, leftward, rightward, Position, unlabelled, at}
 use Rattle.geometry.specs.Overlap.{leftEnd, rightEnd}
 use Rattle.geometry.specs.inner.Machine.{nextAbove, nextBelow}
-use Rattle.best.specs.inner.Worth.{roomFor}
-use Rattle.best.specs.inner.Names.{markAt, nameOf, leftNamed, reachNamed, aboveNamed, belowNamed}
+use Rattle.geometry.proofs.Split.{lt-or-ge}
+use Rattle.best.specs.inner.Worth.{roomFor, roomBetween}
+use Rattle.best.specs.inner.Names.{markAt, nameOf, reachNamed, aboveNamed, belowNamed}
 
 -- the ends, by the two tests that the program makes
 module _ (zs : List ℤ) (ls : List ℕ) (name : ℕ) where
@@ -29,24 +31,12 @@ module _ (zs : List ℤ) (ls : List ℕ) (name : ℕ) where
   unfolding reachNamed
   reach-of-right g h e = rw (le-ltb name 2 h, ne-eqb (name % 2) 0 e) refl
 
-  pub left-of-left : name % 2 ≡ 0 → dot (getD zs (name / 2 - 1) (pos 0)) - getD ls (name / 2 - 1) 0 ≡ leftNamed zs ls name
-  unfolding leftNamed
-  left-of-left e = rw (eq-eqb (name % 2) 0 e) refl
-
-  pub left-of-right : (name % 2 ≡ 0 → ⊥) → dot (getD zs (name / 2 - 1) (pos 0)) ≡ leftNamed zs ls name
-  unfolding leftNamed
-  left-of-right e = rw (ne-eqb (name % 2) 0 e) refl
-
 -- the name of a mark's label leads back to the mark and the direction
 named-mark : (k : ℕ) (d : Direction) → nameOf k d / 2 - 1 ≡ k
 named-mark k leftward = omega arith
 named-mark k rightward = omega arith
 
 module _ (g : ℕ) (zs : List ℤ) (ls ws : List ℕ) (k : ℕ) where
-  pub left-named : (d : Direction) → leftNamed zs ls (nameOf k d) ≡ leftEnd (markAt zs ls ws k) d
-  left-named leftward = sym (left-of-left zs ls (nameOf k leftward) (omega arith)) ∙ ap (λ i. dot (getD zs i (pos 0)) - getD ls i 0) (named-mark k leftward)
-  left-named rightward = sym (left-of-right zs ls (nameOf k rightward) (omega arith)) ∙ ap (λ i. dot (getD zs i (pos 0))) (named-mark k rightward)
-
   pub reach-named : (d : Direction) → reachNamed g zs ls (nameOf k d) ≡ rightEnd (markAt zs ls ws k) d + g
   reach-named leftward =
       sym (reach-of-left zs ls (nameOf k leftward) g (omega arith) (omega arith)) ∙ ap (λ i. dot (getD zs i (pos 0)) + g) (named-mark k leftward)
@@ -64,8 +54,19 @@ module _ (g : ℕ) (zs : List ℤ) (ls ws : List ℕ) (k : ℕ) where
   below-named y (at above d) = refl
   below-named y (at below d) = reach-named d
 
--- room for a label is a test of two named ends
-pub room-named : (g : ℕ) (zs : List ℤ) (ls ws : List ℕ) (k x y : ℕ) (s : Side) (d : Direction) (p : Position) {r : Bool} → p ≡ at s d
-    → r ≡ leb (reachNamed g zs ls (ownReach s x y)) (leftNamed zs ls (nameOf k d)) → r ≡ roomFor (reachNamed g zs ls x) (reachNamed g zs ls y) (markAt zs ls ws k) p
-room-named g zs ls ws k x y above d p e t = rw e (t ∙ ap (leb (reachNamed g zs ls x)) (left-named g zs ls ws k d))
-room-named g zs ls ws k x y below d p e t = rw e (t ∙ ap (leb (reachNamed g zs ls y)) (left-named g zs ls ws k d))
+-- room for a label, by where the labels to the left and to the right begin
+pub room-between : (a b : ℕ) (m : Mark) (p : Position) → roomBetween a b (leftEnd m leftward) (leftEnd m rightward) p ≡ roomFor a b m p
+room-between a b m unlabelled = refl
+room-between a b m (at s leftward) = refl
+room-between a b m (at s rightward) = refl
+
+-- the list has the reaches of the first n names
+abbrev pub ReachesBelow : List ℤ → List ℕ → List ℤ → ℕ → Type 0
+ReachesBelow zs ls reaches n = (m : ℕ) → m < n → dot (getD reaches m (pos 0)) ≡ reachNamed 0 zs ls m
+
+pub one-more-reach : (zs : List ℤ) (ls : List ℕ) (reaches : List ℤ) (n : ℕ) (z : ℤ) → n < length reaches → ReachesBelow zs ls reaches n → dot z ≡ reachNamed 0 zs ls n
+    → ReachesBelow zs ls (set reaches n z) (n + 1)
+one-more-reach zs ls reaches n z inside known e =
+    λ m h.
+    ⊎-elim (λ (l : m < n). ap dot (getD-set-other reaches n m z (pos 0) (omega arith)) ∙ known m l)
+    (λ (l : n ≤ m). let same : m ≡ n = omega arith in rw same (ap dot (getD-set-same reaches n z (pos 0) inside) ∙ e)) (lt-or-ge m n)

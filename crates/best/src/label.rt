@@ -5,13 +5,15 @@ use geometry::ends::right_end;
 use geometry::order::at_most;
 ghost use mathlib.Core.List.{List};
 ghost use mathlib.Core.Path.{_≡_};
-ghost use Prim.Native.Nat.{ℕ, _+_, _≤_, _<_};
-ghost use lib.Dec.{leb};
+ghost use Prim.Native.Nat.{ℕ, _+_, _*_, _≤_, _<_};
 ghost use lib.ListN.{length, getD};
 ghost use Rattle.geometry.specs.Dot.{dot};
 ghost use Rattle.geometry.specs.Position.{code, everyPosition, unlabelled};
-ghost use Rattle.best.specs.inner.Worth.{roomFor};
-ghost use Rattle.best.specs.inner.Names.{positionOf, markAt, leftNamed, reachNamed, aboveNamed, belowNamed, Known};
+ghost use Rattle.best.specs.inner.Worth.{roomFor, roomBetween};
+ghost use Rattle.best.specs.inner.Names.{positionOf, markAt, reachNamed, aboveNamed, belowNamed, Known, Reaches};
+
+// The names of a side's last label: two for none, and two for each of 60 marks.
+pub const NAMES: usize = 122;
 
 // The reach of a side without labels: less than any place.
 const NO_LABELS: i16 = -32767;
@@ -50,20 +52,8 @@ pub fn code_of(p: Position) -> u8
     }
 }
 
-// The left end of the label with this name.
-pub fn left_of(places: &[i16], lengths: &[u8], name: usize) -> i16
-    requires { ⌜ Known (now places) (now lengths) name ⌝ ∗ ⌜ 2 ≤ name ⌝ }
-    ensures { λ r. ⌜ dot r ≡ leftNamed (now (places .entry)) (now (lengths .entry)) name ⌝ }
-{
-    let i = name / 2 - 1;
-    if name % 2 == 0 {
-        return left_end(places[i], lengths[i]);
-    }
-    places[i]
-}
-
 // The reach of a side whose last label has this name.
-pub fn reach_of(places: &[i16], lengths: &[u8], name: usize) -> i16
+fn reach_of(places: &[i16], lengths: &[u8], name: usize) -> i16
     requires { ⌜ Known (now places) (now lengths) name ⌝ }
     ensures { λ r. ⌜ dot r ≡ reachNamed 0 (now (places .entry)) (now (lengths .entry)) name ⌝ }
 {
@@ -105,33 +95,46 @@ pub fn below_after(k: usize, p: Position, below: usize) -> usize
     }
 }
 
-// Whether the label with this name begins where the last label of its side ends, or beyond.
-fn clears(places: &[i16], lengths: &[u8], last: usize, name: usize) -> bool
-    requires { ⌜ Known (now places) (now lengths) last ⌝ ∗ ⌜ Known (now places) (now lengths) name ⌝ ∗ ⌜ 2 ≤ name ⌝ }
-    ensures { λ r. ⌜ r ≡ leb (reachNamed 0 (now (places .entry)) (now (lengths .entry)) last) (leftNamed (now (places .entry)) (now (lengths .entry)) name) ⌝ }
+// Puts the reach of every name into a list, so that the loops of the table look it up.
+pub fn set_reaches(places: &[i16], lengths: &[u8], reaches: &mut [i16])
+    requires { ⌜ Known (now places) (now lengths) 0 ⌝ ∗ ⌜ 2 * length (now places) + 2 ≤ length (now reaches) ⌝ ∗ ⌜ length (now places) ≤ 60 ⌝ }
+    ensures { λ _. ⌜ Reaches (now (places .entry)) (now (lengths .entry)) (now (reaches .exit)) ⌝ }
 {
-    let reach = reach_of(places, lengths, last);
-    let left = left_of(places, lengths, name);
-    at_most(reach, left)
+    let mut name = 0;
+    while name < 2 * places.len() + 2 {
+        reaches[name] = reach_of(places, lengths, name);
+        name += 1;
+    }
+}
+
+// Whether a mark at p has room beside the reaches above and below: its label to the left begins at `left`, that to the right at
+// `place`.
+fn fits_beside(p: Position, above: i16, below: i16, left: i16, place: i16) -> bool
+    ensures { λ r. ⌜ r ≡ roomBetween (dot above) (dot below) (dot left) (dot place) (positionOf p) ⌝ }
+{
+    match p {
+        Position::AboveLeft => at_most(above, left),
+        Position::AboveRight => at_most(above, place),
+        Position::BelowLeft => at_most(below, left),
+        Position::BelowRight => at_most(below, place),
+        Position::Unlabelled => true,
+    }
 }
 
 // Whether mark k at p has room beside the last labels above and below.
 pub fn has_room(
     places: &[i16],
     lengths: &[u8],
+    reaches: &[i16],
     k: usize,
     p: Position,
     above: usize,
     below: usize,
 ) -> bool
-    requires { ⌜ Known (now places) (now lengths) above ⌝ ∗ ⌜ Known (now places) (now lengths) below ⌝ ∗ ⌜ k < length (now places) ⌝ ∗ ⌜ k < 60 ⌝ }
+    requires { ⌜ Known (now places) (now lengths) above ⌝ ∗ ⌜ Known (now places) (now lengths) below ⌝ ∗ ⌜ Reaches (now places) (now lengths) (now reaches) ⌝ ∗ ⌜ (k < length (now places)) × (k < 60) ⌝ }
     ensures { λ r. ⌜ ((ws : List ℕ) → r ≡ roomFor (reachNamed 0 (now (places .entry)) (now (lengths .entry)) above) (reachNamed 0 (now (places .entry)) (now (lengths .entry)) below) (markAt (now (places .entry)) (now (lengths .entry)) ws k) (positionOf p)) ⌝ }
 {
-    match p {
-        Position::AboveLeft => clears(places, lengths, above, 2 * k + 2),
-        Position::AboveRight => clears(places, lengths, above, 2 * k + 3),
-        Position::BelowLeft => clears(places, lengths, below, 2 * k + 2),
-        Position::BelowRight => clears(places, lengths, below, 2 * k + 3),
-        Position::Unlabelled => true,
-    }
+    let place = places[k];
+    let left = left_end(place, lengths[k]);
+    fits_beside(p, reaches[above], reaches[below], left, place)
 }

@@ -8,6 +8,7 @@ mod walk;
 use answer::Best;
 use geometry::entry::check_pass;
 use geometry::order::smaller;
+use label::NAMES;
 ghost use mathlib.Core.List.{map};
 ghost use mathlib.Core.Path.{_≡_};
 ghost use Prim.Native.Nat.{_≤_};
@@ -16,14 +17,33 @@ ghost use Rattle.geometry.specs.Mark.{marksOf};
 ghost use Rattle.geometry.specs.Pass.{written, cleared};
 ghost use Rattle.geometry.specs.Position.{code};
 ghost use Rattle.best.specs.Best.{BestContract, lent};
-ghost use Rattle.best.specs.inner.Table.{Strip};
+ghost use Rattle.best.specs.inner.Table.{Strip, Ready};
 ghost use Rattle.best.specs.inner.Worth.{worth, bestFrom};
 
 const MOST_MARKS: usize = 60;
 
 const NAMED: usize = 15000;
 
-// The positions of an accepted strip and their sum; leaves zeros in the work area.
+// The positions and their sum, by the table and the walk; leaves zeros in the work area.
+fn fill_and_walk(
+    places: &[i16],
+    lengths: &[u8],
+    weights: &[u16],
+    reaches: &[i16],
+    positions: &mut [u8],
+    work: &mut [u32],
+) -> u32
+    requires { ⌜ Ready (now places) (now lengths) (now weights) (now reaches) (now work) ⌝ ∗ ⌜ length (now places) ≤ length (now positions) ⌝ }
+    ensures { λ r. ⌜ now (positions .exit) ≡ written (map code (bestFrom 0 1 1 (marksOf (now (places .entry)) (now (lengths .entry)) (now (weights .entry))))) (now (positions .entry)) ⌝ ∗ ⌜ r ≡ worth 0 1 1 (marksOf (now (places .entry)) (now (lengths .entry)) (now (weights .entry))) ⌝ ∗ ⌜ now (work .exit) ≡ cleared 15000 0 (now (work .entry)) ⌝ }
+{
+    table::fill(places, lengths, weights, reaches, work);
+    walk::place_labels(places, lengths, weights, reaches, positions, work);
+    let sum = work[0];
+    memory::clear(work);
+    sum
+}
+
+// The same for an accepted strip.
 fn label_marks(
     places: &[i16],
     lengths: &[u8],
@@ -34,11 +54,9 @@ fn label_marks(
     requires { ⌜ Strip (now places) (now lengths) (now weights) (now work) ⌝ ∗ ⌜ length (now places) ≤ length (now positions) ⌝ }
     ensures { λ r. ⌜ now (positions .exit) ≡ written (map code (bestFrom 0 1 1 (marksOf (now (places .entry)) (now (lengths .entry)) (now (weights .entry))))) (now (positions .entry)) ⌝ ∗ ⌜ r ≡ worth 0 1 1 (marksOf (now (places .entry)) (now (lengths .entry)) (now (weights .entry))) ⌝ ∗ ⌜ now (work .exit) ≡ cleared 15000 0 (now (work .entry)) ⌝ }
 {
-    table::fill(places, lengths, weights, work);
-    walk::place_labels(places, lengths, weights, positions, work);
-    let sum = work[0];
-    memory::clear(work);
-    sum
+    let mut reaches = [0i16; NAMES];
+    label::set_reaches(places, lengths, &mut reaches);
+    fill_and_walk(places, lengths, weights, &reaches, positions, work)
 }
 
 // A choice with the greatest sum of an overlap-free choice. `positions` gets a position for each mark, 0 for none; `left_out` the

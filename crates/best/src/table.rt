@@ -1,6 +1,7 @@
 // The table: for each pair of last labels, 122 names above and 122 below, the most that the marks after them can still earn.
 // At 60 marks cells are renewed 295,240 times, with five offers each: some 1.5 million steps.
 use crate::label;
+use crate::label::NAMES;
 use crate::label::Position;
 use crate::memory;
 ghost use mathlib.Core.Path.{_≡_};
@@ -11,9 +12,7 @@ ghost use Rattle.geometry.specs.Lists.{greatestOf};
 ghost use Rattle.geometry.specs.Position.{everyPosition};
 ghost use Rattle.best.specs.inner.Worth.{earnedBy};
 ghost use Rattle.best.specs.inner.Names.{positionOf};
-ghost use Rattle.best.specs.inner.Table.{Partly, Filled, Strip, Beside, Light, roomAt, gainAt};
-
-const NAMES: usize = 122;
+ghost use Rattle.best.specs.inner.Table.{Partly, Filled, Ready, Beside, Light, roomAt, gainAt};
 
 fn larger(a: u32, b: u32) -> u32
     ensures { λ r. ⌜ r ≡ max a b ⌝ }
@@ -54,16 +53,17 @@ fn offer(
     places: &[i16],
     lengths: &[u8],
     weights: &[u16],
+    reaches: &[i16],
     work: &[u32],
     k: usize,
     p: Position,
     above: usize,
     below: usize,
 ) -> u32
-    requires { ⌜ Strip (now places) (now lengths) (now weights) (now work) ⌝ ∗ ⌜ Beside (now places) k above below ⌝ ∗ ⌜ Light (now work) k above below ⌝ }
+    requires { ⌜ Ready (now places) (now lengths) (now weights) (now reaches) (now work) ⌝ ∗ ⌜ Beside (now places) k above below ⌝ ∗ ⌜ Light (now work) k above below ⌝ }
     ensures { λ r. ⌜ r ≡ cond (roomAt 0 (now (places .entry)) (now (lengths .entry)) (now (weights .entry)) k above below (positionOf p)) (gainAt (now (weights .entry)) (now (work .entry)) k above below (positionOf p)) 0 ⌝ }
 {
-    if label::has_room(places, lengths, k, p, above, below) {
+    if label::has_room(places, lengths, reaches, k, p, above, below) {
         return gain(weights, work, k, p, above, below);
     }
     0
@@ -74,12 +74,13 @@ fn most(
     places: &[i16],
     lengths: &[u8],
     weights: &[u16],
+    reaches: &[i16],
     work: &[u32],
     k: usize,
     above: usize,
     below: usize,
 ) -> u32
-    requires { ⌜ Strip (now places) (now lengths) (now weights) (now work) ⌝ ∗ ⌜ Beside (now places) k above below ⌝ ∗ ⌜ Light (now work) k above below ⌝ }
+    requires { ⌜ Ready (now places) (now lengths) (now weights) (now reaches) (now work) ⌝ ∗ ⌜ Beside (now places) k above below ⌝ ∗ ⌜ Light (now work) k above below ⌝ }
     ensures { λ r. ⌜ r ≡ greatestOf (roomAt 0 (now (places .entry)) (now (lengths .entry)) (now (weights .entry)) k above below) (gainAt (now (weights .entry)) (now (work .entry)) k above below) everyPosition ⌝ }
 {
     let mut best = 0;
@@ -88,7 +89,7 @@ fn most(
         let p = label::position_at(i);
         best = larger(
             best,
-            offer(places, lengths, weights, work, k, p, above, below),
+            offer(places, lengths, weights, reaches, work, k, p, above, below),
         );
         i += 1;
     }
@@ -100,15 +101,16 @@ fn renew_cell(
     places: &[i16],
     lengths: &[u8],
     weights: &[u16],
+    reaches: &[i16],
     work: &mut [u32],
     k: usize,
     above: usize,
     below: usize,
 )
-    requires { ⌜ Strip (now places) (now lengths) (now weights) (now work) ⌝ ∗ ⌜ k < length (now places) ⌝ ∗ ⌜ (above < 2 * k + 2) × (below < 2 * k + 2) ⌝ ∗ ⌜ Partly 0 (now places) (now lengths) (now weights) k (above * 122 + below) (now work) ⌝ }
+    requires { ⌜ Ready (now places) (now lengths) (now weights) (now reaches) (now work) ⌝ ∗ ⌜ k < length (now places) ⌝ ∗ ⌜ (above < 2 * k + 2) × (below < 2 * k + 2) ⌝ ∗ ⌜ Partly 0 (now places) (now lengths) (now weights) k (above * 122 + below) (now work) ⌝ }
     ensures { λ r. ⌜ Partly 0 (now (places .entry)) (now (lengths .entry)) (now (weights .entry)) k (suc (above * 122 + below)) (now (work .exit)) ⌝ ∗ ⌜ drop 15000 (now (work .exit)) ≡ drop 15000 (now (work .entry)) ⌝ }
 {
-    work[above * NAMES + below] = most(places, lengths, weights, work, k, above, below);
+    work[above * NAMES + below] = most(places, lengths, weights, reaches, work, k, above, below);
 }
 
 // The row of one last label above, for one mark more: its cells with a last label below of mark k or later stay as they are.
@@ -116,41 +118,49 @@ fn renew_row(
     places: &[i16],
     lengths: &[u8],
     weights: &[u16],
+    reaches: &[i16],
     work: &mut [u32],
     k: usize,
     above: usize,
 )
-    requires { ⌜ Strip (now places) (now lengths) (now weights) (now work) ⌝ ∗ ⌜ k < length (now places) ⌝ ∗ ⌜ above < 2 * k + 2 ⌝ ∗ ⌜ Partly 0 (now places) (now lengths) (now weights) k (above * 122) (now work) ⌝ }
+    requires { ⌜ Ready (now places) (now lengths) (now weights) (now reaches) (now work) ⌝ ∗ ⌜ k < length (now places) ⌝ ∗ ⌜ above < 2 * k + 2 ⌝ ∗ ⌜ Partly 0 (now places) (now lengths) (now weights) k (above * 122) (now work) ⌝ }
     ensures { λ r. ⌜ Partly 0 (now (places .entry)) (now (lengths .entry)) (now (weights .entry)) k (suc above * 122) (now (work .exit)) ⌝ ∗ ⌜ drop 15000 (now (work .exit)) ≡ drop 15000 (now (work .entry)) ⌝ }
 {
     let mut below = 0;
     while below < 2 * k + 2 {
-        renew_cell(places, lengths, weights, work, k, above, below);
+        renew_cell(places, lengths, weights, reaches, work, k, above, below);
         below += 1;
     }
 }
 
 // The whole table for one mark more: the rows of last labels above of marks before mark k.
-fn renew(places: &[i16], lengths: &[u8], weights: &[u16], work: &mut [u32], k: usize)
-    requires { ⌜ Strip (now places) (now lengths) (now weights) (now work) ⌝ ∗ ⌜ k < length (now places) ⌝ ∗ ⌜ Filled 0 (now places) (now lengths) (now weights) (suc k) (now work) ⌝ }
+fn renew(
+    places: &[i16],
+    lengths: &[u8],
+    weights: &[u16],
+    reaches: &[i16],
+    work: &mut [u32],
+    k: usize,
+)
+    requires { ⌜ Ready (now places) (now lengths) (now weights) (now reaches) (now work) ⌝ ∗ ⌜ k < length (now places) ⌝ ∗ ⌜ Filled 0 (now places) (now lengths) (now weights) (suc k) (now work) ⌝ }
     ensures { λ r. ⌜ Filled 0 (now (places .entry)) (now (lengths .entry)) (now (weights .entry)) k (now (work .exit)) ⌝ ∗ ⌜ drop 15000 (now (work .exit)) ≡ drop 15000 (now (work .entry)) ⌝ }
 {
     let mut above = 0;
     while above < 2 * k + 2 {
-        renew_row(places, lengths, weights, work, k, above);
+        renew_row(places, lengths, weights, reaches, work, k, above);
         above += 1;
     }
 }
 
 // The table, from the last mark to the first.
-pub fn fill(places: &[i16], lengths: &[u8], weights: &[u16], work: &mut [u32])
-    requires { ⌜ Strip (now places) (now lengths) (now weights) (now work) ⌝ }
+pub fn fill(places: &[i16], lengths: &[u8], weights: &[u16], reaches: &[i16], work: &mut [u32])
+    requires { ⌜ Ready (now places) (now lengths) (now weights) (now reaches) (now work) ⌝ }
     ensures { λ r. ⌜ Filled 0 (now (places .entry)) (now (lengths .entry)) (now (weights .entry)) 0 (now (work .exit)) ⌝ ∗ ⌜ drop 15000 (now (work .exit)) ≡ drop 15000 (now (work .entry)) ⌝ }
 {
     memory::clear(work);
     let mut k = places.len();
     while 0 < k {
         k -= 1;
-        renew(places, lengths, weights, work, k);
+        renew(places, lengths, weights, reaches, work, k);
     }
 }

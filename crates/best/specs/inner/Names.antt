@@ -11,7 +11,7 @@ use Rattle.geometry.specs.Dot.{dot, emptyReach}
 use Rattle.geometry.specs.Lists.{every}
 use Rattle.geometry.specs.Mark.{Mark, placeInRange}
 use Rattle.geometry.specs.Position.{Direction, leftward, rightward, above, below, Position, unlabelled, at, aboveAfter, belowAfter}
-use Rattle.geometry.specs.Overlap.{leftEnd, rightEnd}
+use Rattle.geometry.specs.Overlap.{rightEnd}
 use Rattle.best.specs.declared.label.Position as coded
 use Rattle.best.specs.declared.label.Position.the-variants.{Unlabelled, AboveRight, AboveLeft, BelowLeft, BelowRight}
 
@@ -39,10 +39,7 @@ nameOf k rightward = 2 * k + 3
 abbrev pub directionOf : ℕ → Direction
 directionOf name = cond (eqb (name % 2) 0) leftward rightward
 
--- a label's left end, and its right end with the gap
-unfoldable pub leftNamed : List ℤ → List ℕ → ℕ → ℕ
-leftNamed zs ls name = leftEnd (labelAt zs ls (name / 2 - 1)) (directionOf name)
-
+-- the reach of a side whose last label has this name: the label's right end with the gap
 unfoldable pub reachNamed : ℕ → List ℤ → List ℕ → ℕ → ℕ
 reachNamed g zs ls name = cond (ltb name 2) emptyReach (rightEnd (labelAt zs ls (name / 2 - 1)) (directionOf name) + g)
 
@@ -60,3 +57,8 @@ pub record Known (zs : List ℤ) (ls : List ℕ) (name : ℕ) : Type 0 where
   pub same-lengths : length zs ≡ length ls
   pub places-good : every placeInRange zs ≡ true
   pub within : name / 2 ≤ length zs
+
+-- a list that has the reach of each of these names, as signed numbers
+pub record Reaches (zs : List ℤ) (ls : List ℕ) (reaches : List ℤ) : Type 0 where
+  pub long : 2 * length zs + 2 ≤ length reaches
+  pub reach : (name : ℕ) → name / 2 ≤ length zs → dot (getD reaches name (pos 0)) ≡ reachNamed 0 zs ls name

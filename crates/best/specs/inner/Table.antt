@@ -10,7 +10,7 @@ use Rattle.geometry.specs.Lists.{every}
 use Rattle.geometry.specs.Mark.{marksOf, placeInRange, weightInRange}
 use Rattle.geometry.specs.Position.{Position}
 use Rattle.best.specs.inner.Worth.{roomFor, earnedBy, worth}
-use Rattle.best.specs.inner.Names.{markAt, reachNamed, aboveNamed, belowNamed}
+use Rattle.best.specs.inner.Names.{markAt, reachNamed, aboveNamed, belowNamed, Reaches}
 
 abbrev pub cellOf : ℕ → ℕ → ℕ
 cellOf x y = x * 122 + y
@@ -40,6 +40,11 @@ pub record Strip (zs : List ℤ) (ls ws work : List ℕ) : Type 0 where
   pub places-good : every placeInRange zs ≡ true
   pub weights-good : every weightInRange ws ≡ true
   pub roomy : 15000 ≤ length work
+
+-- the same with the reaches of its labels
+pub record Ready (zs : List ℤ) (ls ws : List ℕ) (reaches : List ℤ) (work : List ℕ) : Type 0 where
+  pub strip : Strip zs ls ws work
+  pub reaches-known : Reaches zs ls reaches
 
 -- the mark with index k is one of the strip, and the last labels x above and y below are of marks before it
 pub record Beside (zs : List ℤ) (k x y : ℕ) : Type 0 where

@@ -6,7 +6,7 @@ use Prim.Native.Nat.{ℕ, _+_}
 use lib.Dec.{leb, eqb}
 use Rattle.geometry.specs.Lists.{firstOf, greatestOf}
 use Rattle.geometry.specs.Mark.{Mark}
-use Rattle.geometry.specs.Position.{Position, unlabelled, at, ownReach, ranked, everyPosition}
+use Rattle.geometry.specs.Position.{leftward, rightward, Position, unlabelled, at, ownReach, ranked, everyPosition}
 use Rattle.geometry.specs.Overlap.{leftEnd}
 use Rattle.geometry.specs.inner.Machine.{nextAbove, nextBelow}
 
@@ -14,6 +14,12 @@ use Rattle.geometry.specs.inner.Machine.{nextAbove, nextBelow}
 abbrev pub roomFor : ℕ → ℕ → Mark → Position → Bool
 roomFor a b m unlabelled = true
 roomFor a b m (at s d) = leb (ownReach s a b) (leftEnd m d)
+
+-- the same by where its labels to the left and to the right begin
+abbrev pub roomBetween : ℕ → ℕ → ℕ → ℕ → Position → Bool
+roomBetween a b left right unlabelled = true
+roomBetween a b left right (at s leftward) = leb (ownReach s a b) left
+roomBetween a b left right (at s rightward) = leb (ownReach s a b) right
 
 -- what a mark of weight w earns at a position
 abbrev pub earnedBy : ℕ → Position → ℕ

@@ -1,107 +1,77 @@
--- `best::label::has_room` meets its contract, position by position.
-use mathlib.Core.Path.{refl, ap}
+-- `best::label::has_room` meets its contract: the reaches are looked up, and a number that went through 16 bits is itself.
+use mathlib.Core.Path.{_∙_}
 use native.Mathlib.Omega.{arith}
+use lib.IntN.{pos}
+use lib.ListN.{getD}
+use Rattle.geometry.specs.Mark.{placeInRange}
+use Rattle.geometry.proofs.Dots.{fetched}
+use Rattle.geometry.proofs.Accepted.{every-at}
+use Rattle.best.specs.inner.Names.{positionOf, markAt, reachNamed}
+use Rattle.best.proofs.Names.{room-between}
 use borrow.Author.Needs.{needs}
-use Rattle.geometry.specs.Position.{above, below, Direction, leftward, rightward}
-use Rattle.best.specs.inner.Names.{positionOf, Known, nameOf}
-use Rattle.best.proofs.Names.{room-named}
 use Rattle.best.proofs.label.has_room.Statement.{statement}
 use Rattle.best.proofs.label.has_room.Tie as tie
+use Rattle.best.proofs.label.has_room.Reads as reads
+use Rattle.best.proofs.label.has_room.Lts as lts
+use Rattle.best.proofs.label.fits_beside.Reads as fits-beside-reads
+use Rattle.geometry.proofs.ends.left_end.Reads as left-end-reads
 
--- the label of the mark k is known
-known : (a : tie.Start) (d : Direction) → Known (a .args .places .now) (a .args .lengths .now) (nameOf (a .args .k) d)
-known a leftward = record { same-lengths = a .pre .0 .same-lengths; places-good = a .pre .0 .places-good; within = omega arith }
-known a rightward = record { same-lengths = a .pre .0 .same-lengths; places-good = a .pre .0 .places-good; within = omega arith }
+mul-place : tie.Need-mul-place
+mul-place c = search needs
 
-enum-told : tie.Need-enum-told
-enum-told c = search needs
+shared-slice-copy-out-place : tie.Need-shared-slice-copy-out-place
+shared-slice-copy-out-place c = search needs
 
-mul-clears : tie.Need-mul-clears
-mul-clears c = search needs
+shared-slice-read-left-end : tie.Need-shared-slice-read-left-end
+shared-slice-read-left-end c = search needs
 
-add-clears : tie.Need-add-clears
-add-clears c = search needs
+left-end-requires : tie.Need-left-end-requires
+left-end-requires c κs =
+    let a = c .before .before .before in
+    rw (fetched (getD (a .args .places .now) (a .args .k) (pos 0)) (c .before .place .given)) (every-at placeInRange (a .args .places .now) (pos 0) (a .args .k) (a .pre .0 .places-good) (omega arith))
 
-clears-requires : tie.Need-clears-requires
-clears-requires c κs = (c .before .before .before .pre .0, (known (c .before .before .before) leftward, omega arith))
+mul-fits-beside : tie.Need-mul-fits-beside
+mul-fits-beside c = search needs
 
-enum-told-2 : tie.Need-enum-told-2
-enum-told-2 c = search needs
+shared-slice-copy-out-fits-beside : tie.Need-shared-slice-copy-out-fits-beside
+shared-slice-copy-out-fits-beside c = search needs
 
-mul-clears-2 : tie.Need-mul-clears-2
-mul-clears-2 c = search needs
+mul-fits-beside-2 : tie.Need-mul-fits-beside-2
+mul-fits-beside-2 c = search needs
 
-add-clears-2 : tie.Need-add-clears-2
-add-clears-2 c = search needs
+shared-slice-copy-out-fits-beside-2 : tie.Need-shared-slice-copy-out-fits-beside-2
+shared-slice-copy-out-fits-beside-2 c = search needs
 
-clears-requires-2 : tie.Need-clears-requires-2
-clears-requires-2 c κs = (c .before .before .before .pre .0, (known (c .before .before .before) rightward, omega arith))
-
-enum-told-3 : tie.Need-enum-told-3
-enum-told-3 c = search needs
-
-mul-clears-3 : tie.Need-mul-clears-3
-mul-clears-3 c = search needs
-
-add-clears-3 : tie.Need-add-clears-3
-add-clears-3 c = search needs
-
-clears-requires-3 : tie.Need-clears-requires-3
-clears-requires-3 c κs = (c .before .before .before .pre .1 .0, (known (c .before .before .before) leftward, omega arith))
-
-enum-told-4 : tie.Need-enum-told-4
-enum-told-4 c = search needs
-
-mul-clears-4 : tie.Need-mul-clears-4
-mul-clears-4 c = search needs
-
-add-clears-4 : tie.Need-add-clears-4
-add-clears-4 c = search needs
-
-clears-requires-4 : tie.Need-clears-requires-4
-clears-requires-4 c κs = (c .before .before .before .pre .1 .0, (known (c .before .before .before) rightward, omega arith))
-
-enum-told-5 : tie.Need-enum-told-5
-enum-told-5 c = search needs
+fits-beside-requires : tie.Need-fits-beside-requires
+fits-beside-requires c κs = search needs
 
 returns : tie.Need-returns
-returns c ws = room-named 0 _ _ ws _ _ _ above leftward _ (ap positionOf (c .before .enum-told .given .1)) (c .clears .ensures)
-
-returns-2 : tie.Need-returns-2
-returns-2 c ws = room-named 0 _ _ ws _ _ _ above rightward _ (ap positionOf (c .before .enum-told2 .given .1)) (c .clears2 .ensures)
-
-returns-3 : tie.Need-returns-3
-returns-3 c ws = room-named 0 _ _ ws _ _ _ below leftward _ (ap positionOf (c .before .enum-told3 .given .1)) (c .clears3 .ensures)
-
-returns-4 : tie.Need-returns-4
-returns-4 c ws = room-named 0 _ _ ws _ _ _ below rightward _ (ap positionOf (c .before .enum-told4 .given .1)) (c .clears4 .ensures)
-
-returns-5 : tie.Need-returns-5
-returns-5 c ws = rw (c .enum-told5 .given .1) refl
+returns c ws =
+    let a = c .before .before .before .before .before .before .before in
+    let known = a .pre .1 .1 .0 in
+    (rw (
+      fetched (getD (a .args .reaches .now) (a .args .above) (pos 0)) (c .before .before .fits-beside-arg .given),
+      fetched (getD (a .args .reaches .now) (a .args .below) (pos 0)) (c .before .fits-beside-arg2 .given),
+      fetched (c .before .before .before .left-end .result) (c .before .before .before .left-end .ok),
+      c .before .before .before .left-end .ensures,
+      fetched (getD (a .args .places .now) (a .args .k) (pos 0)) (c .before .before .before .before .before .place .given),
+      known .reach (a .args .above) (a .pre .0 .within),
+      known .reach (a .args .below) (a .pre .1 .0 .within),
+    )
+    at (c .fits-beside .ensures))
+    ∙ room-between (reachNamed 0 (a .args .places .now) (a .args .lengths .now) (a .args .above)) (reachNamed 0 (a .args .places .now) (a .args .lengths .now) (a .args .below)) (markAt (a .args .places .now) (a .args .lengths .now) ws (a .args .k)) (positionOf (a .args .p))
 
 pub has-room-spec : {M : Type 1} → statement M
 has-room-spec =
     tie.close
     (tie.spec
-    enum-told
-    mul-clears
-    add-clears
-    clears-requires
-    enum-told-2
-    mul-clears-2
-    add-clears-2
-    clears-requires-2
-    enum-told-3
-    mul-clears-3
-    add-clears-3
-    clears-requires-3
-    enum-told-4
-    mul-clears-4
-    add-clears-4
-    clears-requires-4
-    enum-told-5
-    returns
-    returns-2
-    returns-3
-    returns-4
-    returns-5)
+    mul-place
+    shared-slice-copy-out-place
+    shared-slice-read-left-end
+    left-end-requires
+    mul-fits-beside
+    shared-slice-copy-out-fits-beside
+    mul-fits-beside-2
+    shared-slice-copy-out-fits-beside-2
+    fits-beside-requires
+    returns)

@@ -16,11 +16,11 @@ use Rattle.best.proofs.table.most.Statement.{statement}
 use Rattle.best.proofs.table.most.Tie as tie
 
 abbrev Inv-loop : tie.InvT-loop
-Inv-loop places lengths weights work k above below best₀ i₀ best i =
+Inv-loop places lengths weights reaches work k above below best₀ i₀ best i =
     (i ≤ 5) × (max best (greatestOf (roomAt 0 places lengths weights k above below) (gainAt weights work k above below) (drop i everyPosition)) ≡ greatestOf (roomAt 0 places lengths weights k above below) (gainAt weights work k above below) everyPosition)
 
 abbrev μ-loop : tie.MeasureT-loop
-μ-loop places lengths weights work k above below best₀ i₀ best i = 5 - i
+μ-loop places lengths weights reaches work k above below best₀ i₀ best i = 5 - i
 
 -- room and gain beside the last labels that were passed
 abbrev room : tie.Start Inv-loop μ-loop → Position → Bool

@@ -4,10 +4,10 @@ use Rattle.best.proofs.table.offer.Statement.{statement}
 use Rattle.best.proofs.table.offer.Tie as tie
 
 has-room-requires : tie.Need-has-room-requires
-has-room-requires c κs = let a = c .before .before .before in room-asked _ _ _ _ _ _ _ (a .pre .0) (a .pre .1 .0)
+has-room-requires c κs = let a = c .before .before .before in room-asked _ _ _ _ _ _ _ _ (a .pre .0) (a .pre .1 .0)
 
 gain-requires : tie.Need-gain-requires
-gain-requires c κs = let a = c .before .before .before .before .before in gain-asked _ _ _ _ _ _ _ (a .pre .0) (a .pre .1 .0) (a .pre .1 .1)
+gain-requires c κs = let a = c .before .before .before .before .before in gain-asked _ _ _ _ _ _ _ _ (a .pre .0) (a .pre .1 .0) (a .pre .1 .1)
 
 returns : tie.Need-returns
 returns c =

@@ -12,7 +12,7 @@ most-requires : tie.Need-most-requires
 most-requires c κs =
     let a = c .before .before .before .before in
     let h = a .pre .1 .1 in
-    (a .pre .0, (cell-beside 0 _ _ _ _ _ _ _ (a .pre .0) (a .pre .1 .0) (h .0 .0) (h .0 .1) (h .1), cells-light 0 _ _ _ _ _ _ _ (a .pre .0) (a .pre .1 .0) (h .0 .0) (h .0 .1) (h .1)))
+    (a .pre .0, (cell-beside 0 _ _ _ _ _ _ _ (a .pre .0 .strip) (a .pre .1 .0) (h .0 .0) (h .0 .1) (h .1), cells-light 0 _ _ _ _ _ _ _ (a .pre .0 .strip) (a .pre .1 .0) (h .0 .0) (h .0 .1) (h .1)))
 
 mul-work : tie.Need-mul-work
 mul-work c = search needs
@@ -33,7 +33,7 @@ returns : tie.Need-returns
 returns c =
     let a = c .before .before .before .before .before in
     let h = a .pre .1 .1 in (
-      set-cell 0 _ _ _ _ (a .args .above) (a .args .below) _ _ (omega arith) (h .1) (omega arith) (c .most .ensures ∙ cell-value 0 _ _ _ _ _ _ _ (a .pre .0) (a .pre .1 .0) (h .0 .0) (h .0 .1) (h .1)),
+      set-cell 0 _ _ _ _ (a .args .above) (a .args .below) _ _ (omega arith) (h .1) (omega arith) (c .most .ensures ∙ cell-value 0 _ _ _ _ _ _ _ (a .pre .0 .strip) (a .pre .1 .0) (h .0 .0) (h .0 .1) (h .1)),
       drop-set-lt 15000 (a .args .work .now) (a .args .above * 122 + a .args .below) (c .most .result) (omega arith),
     )
 

@@ -1,10 +1,10 @@
--- `best::label_marks` meets its contract: the filled table, the walk by it, and its first cell.
-use Rattle.best.proofs.Cells.{strip-again}
+-- `best::fill_and_walk` meets its contract: the filled table, the walk by it, and its first cell.
+use Rattle.best.proofs.Cells.{strip-again, ready-again}
 use Rattle.best.proofs.Lent.{cleared-again}
 use Rattle.best.proofs.Walked.{first-cell}
 use borrow.Author.Needs.{needs}
-use Rattle.best.proofs.label_marks.Statement.{statement}
-use Rattle.best.proofs.label_marks.Tie as tie
+use Rattle.best.proofs.fill_and_walk.Statement.{statement}
+use Rattle.best.proofs.fill_and_walk.Tie as tie
 
 fill-requires : tie.Need-fill-requires
 fill-requires c κs = search needs
@@ -13,7 +13,7 @@ place-labels-requires : tie.Need-place-labels-requires
 place-labels-requires c κs =
     let a = c .before .before .before .before .before .before .before .before .before .before in
     let f = c .before .before .before .before .fill in
-    (strip-again (a .args .work .now) (f .last .1 .1 .1 .0) (a .pre .0) (f .kept .1 .1 .1 .0), (f .ensures .0, a .pre .1))
+    (ready-again (a .args .work .now) (f .last .1 .1 .1 .1 .0) (a .pre .0) (f .kept .1 .1 .1 .1 .0), (f .ensures .0, a .pre .1))
 
 slice-read-sum : tie.Need-slice-read-sum
 slice-read-sum c = search needs
@@ -34,13 +34,13 @@ returns c =
     let x = c .before .before .clear in (
       c .before .before .before .before .before .before .before .place-labels .ensures,
       (
-        first-cell 0 _ _ _ _ (strip-again (a .args .work .now) (f .last .1 .1 .1 .0) (a .pre .0) (f .kept .1 .1 .1 .0)) (f .ensures .0),
-        cleared-again 15000 (x .last .0) (f .last .1 .1 .1 .0) (a .args .work .now) (x .ensures) (f .ensures .1),
+        first-cell 0 _ _ _ _ (strip-again (a .args .work .now) (f .last .1 .1 .1 .1 .0) (a .pre .0 .strip) (f .kept .1 .1 .1 .1 .0)) (f .ensures .0),
+        cleared-again 15000 (x .last .0) (f .last .1 .1 .1 .1 .0) (a .args .work .now) (x .ensures) (f .ensures .1),
       ),
     )
 
-pub label-marks-spec : {M : Type 1} → statement M
-label-marks-spec =
+pub fill-and-walk-spec : {M : Type 1} → statement M
+fill-and-walk-spec =
     tie.close
     (tie.spec
     fill-requires

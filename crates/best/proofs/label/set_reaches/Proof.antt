@@ -1,0 +1,76 @@
+-- `best::label::set_reaches` meets its contract: the list has the reaches of the names before `name`.
+use mathlib.Core.Path.{_≡_, refl}
+use Prim.Native.Nat.{_+_, _-_, _*_, _≤_}
+use native.Mathlib.Omega.{arith}
+use lib.ListN.{length, length-set}
+use Rattle.geometry.proofs.Dots.{fetched}
+use Rattle.best.proofs.Names.{ReachesBelow, one-more-reach}
+use Rattle.best.proofs.label.set_reaches.Statement.{statement}
+use Rattle.best.proofs.label.set_reaches.Tie as tie
+use Rattle.best.proofs.label.set_reaches.Reads as reads
+use Rattle.best.proofs.label.set_reaches.Lts as lts
+use Rattle.best.proofs.label.reach_of.Reads as reach-of-reads
+
+abbrev Inv-loop : tie.InvT-loop
+Inv-loop places lengths reaches₀ name₀ reaches name = (name ≤ 2 * length places + 2) × (length reaches ≡ length reaches₀) × ReachesBelow places lengths reaches name
+
+abbrev μ-loop : tie.MeasureT-loop
+μ-loop places lengths reaches₀ name₀ reaches name = 2 * length places + 2 - name
+
+loop-holds : tie.Need-loop-holds Inv-loop μ-loop
+loop-holds c = (omega arith, refl, λ m h. absurd (omega arith))
+
+mul-loop : tie.Need-mul-loop Inv-loop μ-loop
+mul-loop c = omega arith
+
+add-loop : tie.Need-add-loop Inv-loop μ-loop
+add-loop c = omega arith
+
+reach-of-requires : tie.Need-reach-of-requires Inv-loop μ-loop
+reach-of-requires c κs =
+    let known = c .before .before .before .pre .0 in
+    record { same-lengths = known .same-lengths; places-good = known .places-good; within = omega arith }
+
+mul-t5 : tie.Need-mul-t5 Inv-loop μ-loop
+mul-t5 c = omega arith
+
+slice-set-from-reaches : tie.Need-slice-set-from-reaches Inv-loop μ-loop
+slice-set-from-reaches c = let h = c .before .before .loop .inv in omega arith
+
+add-name : tie.Need-add-name Inv-loop μ-loop
+add-name c = omega arith
+
+loop-less : tie.Need-loop-less Inv-loop μ-loop
+loop-less c = omega arith
+
+loop-again : tie.Need-loop-again Inv-loop μ-loop
+loop-again c =
+    let a = c .before .before .before .before in
+    let h = c .before .before .loop .inv in
+    (omega arith, simp length-set (h .1), one-more-reach (a .args .places .now) (a .args .lengths .now) (c .before .before .loop .reaches) (c .before .before .loop .name) _ (omega arith) (h .2) (rw (fetched (c .reach-of .result) (c .reach-of .ok)) (c .reach-of .ensures)))
+
+same-length : tie.Need-same-length Inv-loop μ-loop
+same-length c = c .before .loop .inv .1
+
+returns : tie.Need-returns Inv-loop μ-loop
+returns c =
+    let h = c .before .loop .inv in
+    record { long = omega arith; reach = λ name inside. h .2 name (omega arith) }
+
+pub set-reaches-spec : {M : Type 1} → statement M
+set-reaches-spec =
+    tie.close
+    (tie.spec
+    Inv-loop
+    μ-loop
+    loop-holds
+    mul-loop
+    add-loop
+    reach-of-requires
+    mul-t5
+    slice-set-from-reaches
+    add-name
+    loop-less
+    loop-again
+    same-length
+    returns)
