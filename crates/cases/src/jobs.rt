@@ -1,6 +1,5 @@
 // Job bytes: strip 14, strip 11's job with each of its truncations, and each boundary of the reader and the writer.
 use crate::tally;
-use tally::Tally;
 
 // Strip 11.
 pub const STRIP11: [u8; 26] = [
@@ -34,7 +33,7 @@ pub const STRIP11: [u8; 26] = [
 
 // What the reader must give for a job and three lists.
 fn lists_give(
-    t: Tally,
+    agreed: u32,
     case: u32,
     job: &[u8],
     places: &mut [i16],
@@ -42,19 +41,19 @@ fn lists_give(
     weights: &mut [u16],
     number: u8,
     count: usize,
-) -> Tally {
+) -> u32 {
     let got = job::reader::read(job, places, lengths, weights);
-    let first = tally::same_byte(t, case, got.number, number);
+    let first = tally::same_byte(agreed, case, got.number, number);
     tally::same_count(first, case, got.count, count)
 }
 
 // The same with lists for 8 marks.
-fn reads(t: Tally, case: u32, job: &[u8], number: u8, count: usize) -> Tally {
+fn reads(agreed: u32, case: u32, job: &[u8], number: u8, count: usize) -> u32 {
     let mut places = [0i16; 8];
     let mut lengths = [0u8; 8];
     let mut weights = [0u16; 8];
     lists_give(
-        t,
+        agreed,
         case,
         job,
         &mut places,
@@ -65,12 +64,12 @@ fn reads(t: Tally, case: u32, job: &[u8], number: u8, count: usize) -> Tally {
     )
 }
 
-fn refused(t: Tally, case: u32, job: &[u8], number: u8) -> Tally {
-    reads(t, case, job, number, 0)
+fn refused(agreed: u32, case: u32, job: &[u8], number: u8) -> u32 {
+    reads(agreed, case, job, number, 0)
 }
 
-fn strip14(t: Tally) -> Tally {
-    let a = reads(t, 301, &[0, 0, 0, 0], 0, 0);
+fn strip14(agreed: u32) -> u32 {
+    let a = reads(agreed, 301, &[0, 0, 0, 0], 0, 0);
     let b = refused(a, 302, &[0, 0, 0, 1], 4);
     let c = refused(b, 303, &[0, 1, 0, 0, 2, 8], 3);
     let d = refused(c, 304, &[0, 0, 0, 0, 0], 5);
@@ -78,8 +77,8 @@ fn strip14(t: Tally) -> Tally {
 }
 
 // The header: count and first place.
-fn headers(t: Tally) -> Tally {
-    let a = refused(t, 311, &[15, 161, 0, 0], 4);
+fn headers(agreed: u32) -> u32 {
+    let a = refused(agreed, 311, &[15, 161, 0, 0], 4);
     let b = refused(a, 312, &[255, 255, 0, 0], 4);
     let c = reads(b, 313, &[0, 1, 117, 48, 0], 0, 1);
     let d = refused(c, 314, &[0, 1, 117, 49, 0], 4);
@@ -89,8 +88,8 @@ fn headers(t: Tally) -> Tally {
 }
 
 // The bit map.
-fn maps(t: Tally) -> Tally {
-    let a = refused(t, 321, &[0, 1, 0, 0, 8], 2);
+fn maps(agreed: u32) -> u32 {
+    let a = refused(agreed, 321, &[0, 1, 0, 0, 8], 2);
     let b = refused(a, 322, &[0, 1, 0, 0, 128], 2);
     let c = refused(b, 323, &[0, 1, 0, 0, 1, 0, 2], 2);
     let d = refused(c, 324, &[0, 2, 0, 0, 0, 16], 2);
@@ -99,8 +98,8 @@ fn maps(t: Tally) -> Tally {
 }
 
 // The step, and the place that it leads to.
-fn steps(t: Tally) -> Tally {
-    let a = refused(t, 331, &[0, 2, 0, 0, 0, 1, 0, 0], 4);
+fn steps(agreed: u32) -> u32 {
+    let a = refused(agreed, 331, &[0, 2, 0, 0, 0, 1, 0, 0], 4);
     let b = refused(a, 332, &[0, 2, 0, 0, 0, 1, 0, 1], 3);
     let c = reads(b, 333, &[0, 2, 0, 0, 0, 1, 0, 2], 0, 2);
     let d = reads(c, 334, &[0, 2, 138, 208, 0, 1, 234, 96], 0, 2);
@@ -110,16 +109,16 @@ fn steps(t: Tally) -> Tally {
     refused(g, 338, &[0, 2, 0, 0, 0, 1, 0], 1)
 }
 
-fn lengths(t: Tally) -> Tally {
-    let a = refused(t, 341, &[0, 1, 0, 0, 2, 0], 4);
+fn lengths(agreed: u32) -> u32 {
+    let a = refused(agreed, 341, &[0, 1, 0, 0, 2, 0], 4);
     let b = reads(a, 342, &[0, 1, 0, 0, 2, 1], 0, 1);
     let c = reads(b, 343, &[0, 1, 0, 0, 2, 240], 0, 1);
     let d = refused(c, 344, &[0, 1, 0, 0, 2, 241], 4);
     refused(d, 345, &[0, 1, 0, 0, 2], 1)
 }
 
-fn weights(t: Tally) -> Tally {
-    let a = refused(t, 351, &[0, 1, 0, 0, 4, 0, 0], 4);
+fn weights(agreed: u32) -> u32 {
+    let a = refused(agreed, 351, &[0, 1, 0, 0, 4, 0, 0], 4);
     let b = refused(a, 352, &[0, 1, 0, 0, 4, 0, 1], 3);
     let c = reads(b, 353, &[0, 1, 0, 0, 4, 3, 232], 0, 1);
     let d = refused(c, 354, &[0, 1, 0, 0, 4, 3, 233], 4);
@@ -127,15 +126,15 @@ fn weights(t: Tally) -> Tally {
 }
 
 // The first `k` bytes of a job, which must be refused with 1.
-fn truncated(t: Tally, job: &[u8], k: usize) -> Tally {
+fn truncated(agreed: u32, job: &[u8], k: usize) -> u32 {
     if job.len() < k {
-        return tally::holds(t, 361, false);
+        return tally::holds(agreed, 361, false);
     }
-    refused(t, 361, &job[..k], 1)
+    refused(agreed, 361, &job[..k], 1)
 }
 
-fn truncations(t: Tally, job: &[u8]) -> Tally {
-    let mut all = t;
+fn truncations(agreed: u32, job: &[u8]) -> u32 {
+    let mut all = agreed;
     let mut k = 0;
     while k < job.len() {
         all = truncated(all, job, k);
@@ -145,8 +144,8 @@ fn truncations(t: Tally, job: &[u8]) -> Tally {
 }
 
 // Strip 11 whole, with one byte too many, and with a list that is one short.
-fn strip11(t: Tally) -> Tally {
-    let a = truncations(t, &STRIP11);
+fn strip11(agreed: u32) -> u32 {
+    let a = truncations(agreed, &STRIP11);
     let b = reads(a, 362, &STRIP11, 0, 5);
     refused(
         b,
@@ -184,9 +183,9 @@ fn strip11(t: Tally) -> Tally {
     )
 }
 
-fn short_lists(t: Tally) -> Tally {
+fn short_lists(agreed: u32) -> u32 {
     let a = lists_give(
-        t,
+        agreed,
         371,
         &STRIP11,
         &mut [0; 5],
@@ -238,15 +237,15 @@ fn short_lists(t: Tally) -> Tally {
 }
 
 // What the writer must give for strip 11 and this output.
-fn writes(t: Tally, case: u32, job: &mut [u8], number: u8, length: usize) -> Tally {
+fn writes(agreed: u32, case: u32, job: &mut [u8], number: u8, length: usize) -> u32 {
     let got = job::writer::write(&[0, 1, 2, 3, 10], &[10; 5], &[9, 2, 9, 9, 9], job);
-    let first = tally::same_byte(t, case, got.number, number);
+    let first = tally::same_byte(agreed, case, got.number, number);
     tally::same_count(first, case, got.length, length)
 }
 
-fn written(t: Tally) -> Tally {
+fn written(agreed: u32) -> u32 {
     let mut job = [0u8; 26];
-    let a = writes(t, 381, &mut job, 0, 26);
+    let a = writes(agreed, 381, &mut job, 0, 26);
     let b = tally::holds(a, 381, is_strip11(&job));
     let c = writes(b, 382, &mut [0; 25], 9, 0);
     writes(c, 383, &mut [0; 27], 0, 26)
@@ -256,8 +255,8 @@ fn is_strip11(job: &[u8; 26]) -> bool {
     tally::begins_with(job, &STRIP11)
 }
 
-pub fn jobs() -> Tally {
-    let a = strip14(tally::none_yet());
+pub fn jobs() -> u32 {
+    let a = strip14(0);
     let b = weights(lengths(steps(maps(headers(a)))));
     written(short_lists(strip11(b)))
 }

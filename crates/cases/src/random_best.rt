@@ -233,7 +233,7 @@ fn compared(t: Tally, s: Strip) -> Tally {
     if !agreed {
         strip::print_strip(b"best", s);
     }
-    tally::counted(t, agreed, count == 0)
+    tally::after(t, agreed, count == 0)
 }
 
 // So many strips, from a seed on.

@@ -108,7 +108,7 @@ fn compared(t: Tally, s: Strip) -> Tally {
     if !agreed {
         strip::print_strip(b"full", s);
     }
-    tally::counted(t, agreed, number == 0)
+    tally::after(t, agreed, number == 0)
 }
 
 // So many strips, from a seed on.

@@ -1,7 +1,6 @@
 // The ranges of a mark and the numbers of marks, at each boundary: strip 13, for the three passes and the writer.
 use crate::strip;
 use crate::tally;
-use tally::Tally;
 
 // The number that the full pass gives.
 fn full_number(places: &[i16], lengths: &[u8], weights: &[u16]) -> u8 {
@@ -40,35 +39,35 @@ fn writer_number(places: &[i16], lengths: &[u8], weights: &[u16]) -> u8 {
 
 // What the four calls must give for these lists: `small` for slide and best, which take 60 marks, `large` for full and the writer.
 fn all_give(
-    t: Tally,
+    agreed: u32,
     case: u32,
     places: &[i16],
     lengths: &[u8],
     weights: &[u16],
     small: u8,
     large: u8,
-) -> Tally {
-    let a = tally::same_byte(t, case, full_number(places, lengths, weights), large);
+) -> u32 {
+    let a = tally::same_byte(agreed, case, full_number(places, lengths, weights), large);
     let b = tally::same_byte(a, case, slide_number(places, lengths, weights), small);
     let c = tally::same_byte(b, case, best_number(places, lengths, weights), small);
     tally::same_byte(c, case, writer_number(places, lengths, weights), large)
 }
 
 // One mark.
-fn one(t: Tally, case: u32, place: i16, length: u8, weight: u16, number: u8) -> Tally {
-    all_give(t, case, &[place], &[length], &[weight], number, number)
+fn one(agreed: u32, case: u32, place: i16, length: u8, weight: u16, number: u8) -> u32 {
+    all_give(agreed, case, &[place], &[length], &[weight], number, number)
 }
 
-fn lengths(t: Tally) -> Tally {
-    let a = one(t, 101, 0, 240, 1, 0);
+fn lengths(agreed: u32) -> u32 {
+    let a = one(agreed, 101, 0, 240, 1, 0);
     let b = one(a, 102, 0, 241, 1, 8);
     let c = one(b, 103, 0, 255, 1, 8);
     let d = one(c, 104, 0, 0, 1, 8);
     one(d, 105, 0, 1, 1, 0)
 }
 
-fn places(t: Tally) -> Tally {
-    let a = one(t, 111, 30000, 10, 1, 0);
+fn places(agreed: u32) -> u32 {
+    let a = one(agreed, 111, 30000, 10, 1, 0);
     let b = one(a, 112, 30001, 10, 1, 8);
     let c = one(b, 113, -30000, 10, 1, 0);
     let d = one(c, 114, -30001, 10, 1, 8);
@@ -76,8 +75,8 @@ fn places(t: Tally) -> Tally {
     one(e, 116, -32768, 10, 1, 8)
 }
 
-fn weights(t: Tally) -> Tally {
-    let a = one(t, 121, 0, 10, 0, 8);
+fn weights(agreed: u32) -> u32 {
+    let a = one(agreed, 121, 0, 10, 0, 8);
     let b = one(a, 122, 0, 10, 1, 0);
     let c = one(b, 123, 0, 10, 1000, 0);
     let d = one(c, 124, 0, 10, 1001, 8);
@@ -85,8 +84,8 @@ fn weights(t: Tally) -> Tally {
 }
 
 // Places that do not rise, lists of unequal length, and no marks.
-fn lists(t: Tally) -> Tally {
-    let a = all_give(t, 131, &[5, 5], &[10; 2], &[1; 2], 8, 8);
+fn lists(agreed: u32) -> u32 {
+    let a = all_give(agreed, 131, &[5, 5], &[10; 2], &[1; 2], 8, 8);
     let b = all_give(a, 132, &[5, 4], &[10; 2], &[1; 2], 8, 8);
     let c = all_give(b, 133, &[-5, 5], &[10; 2], &[1; 2], 0, 0);
     let d = all_give(c, 134, &[5, 5], &[10], &[1; 2], 6, 6);
@@ -112,7 +111,7 @@ fn set_places(places: &mut [i16; 4001]) {
 
 // The four calls on the first `n` marks.
 fn first_give(
-    t: Tally,
+    agreed: u32,
     case: u32,
     places: &[i16],
     lengths: &[u8],
@@ -120,18 +119,18 @@ fn first_give(
     n: usize,
     small: u8,
     large: u8,
-) -> Tally {
+) -> u32 {
     if places.len() < n {
-        return tally::holds(t, case, false);
+        return tally::holds(agreed, case, false);
     }
     if lengths.len() < n {
-        return tally::holds(t, case, false);
+        return tally::holds(agreed, case, false);
     }
     if weights.len() < n {
-        return tally::holds(t, case, false);
+        return tally::holds(agreed, case, false);
     }
     all_give(
-        t,
+        agreed,
         case,
         &places[..n],
         &lengths[..n],
@@ -142,10 +141,10 @@ fn first_give(
 }
 
 // 60 and 61 marks, 4,000 and 4,001; 7 comes before 8, and 6 before 7.
-fn many(t: Tally, places: &[i16; 4001]) -> Tally {
+fn many(agreed: u32, places: &[i16; 4001]) -> u32 {
     let lengths = [10u8; 4001];
     let weights = [1u16; 4001];
-    let a = first_give(t, 141, places, &lengths, &weights, 60, 0, 0);
+    let a = first_give(agreed, 141, places, &lengths, &weights, 60, 0, 0);
     let b = first_give(a, 142, places, &lengths, &weights, 61, 7, 0);
     let c = first_give(b, 143, places, &lengths, &weights, 4000, 7, 0);
     let d = first_give(c, 144, places, &lengths, &weights, 4001, 7, 7);
@@ -153,12 +152,12 @@ fn many(t: Tally, places: &[i16; 4001]) -> Tally {
     all_give(e, 146, places, &[10; 4000], &weights, 6, 6)
 }
 
-fn counts(t: Tally) -> Tally {
+fn counts(agreed: u32) -> u32 {
     let mut places = [0i16; 4001];
     set_places(&mut places);
-    many(t, &places)
+    many(agreed, &places)
 }
 
-pub fn ranges() -> Tally {
-    counts(lists(weights(places(lengths(tally::none_yet())))))
+pub fn ranges() -> u32 {
+    counts(lists(weights(places(lengths(0)))))
 }

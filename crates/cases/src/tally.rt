@@ -1,16 +1,15 @@
-// How many comparisons a group made and how many of them agreed, and the lines that it prints.
+// How many comparisons of a group agreed so far, and the lines that it prints. A comparison that disagrees is not counted, and
+// prints a line of its own.
 use libc::STDOUT_FILENO;
 
+// Of random strips: how many agreed, and how many have every mark labelled.
 pub struct Tally {
-    pub compared: u32,
     pub agreed: u32,
-    // Of random strips: how many have every mark labelled.
     pub whole: u32,
 }
 
 pub fn none_yet() -> Tally {
     Tally {
-        compared: 0,
         agreed: 0,
         whole: 0,
     }
@@ -20,64 +19,65 @@ fn one_if(test: bool) -> u32 {
     if test { 1 } else { 0 }
 }
 
-// The tally after one more comparison.
-pub fn counted(t: Tally, agrees: bool, is_whole: bool) -> Tally {
+// The tally after one more random strip.
+pub fn after(t: Tally, agrees: bool, is_whole: bool) -> Tally {
     Tally {
-        compared: std::num::wrapping_add_u32(t.compared, 1),
         agreed: std::num::wrapping_add_u32(t.agreed, one_if(agrees)),
         whole: std::num::wrapping_add_u32(t.whole, one_if(is_whole)),
     }
 }
 
-// The tally after a case with a number for its answer; a case that disagrees prints a line.
-pub fn same(t: Tally, case: u32, got: u64, wanted: u64) -> Tally {
-    if got != wanted {
-        io::write_all(STDOUT_FILENO, b"case ");
-        io::print_decimal(STDOUT_FILENO, case as u64);
-        io::write_all(STDOUT_FILENO, b" gives ");
-        io::print_decimal(STDOUT_FILENO, got);
-        io::write_all(STDOUT_FILENO, b" and not ");
-        io::print_decimal(STDOUT_FILENO, wanted);
-        io::write_all(STDOUT_FILENO, b"\n");
-    }
-    counted(t, got == wanted, false)
+// The line for a case that disagrees.
+fn print_case(case: u32, got: u64, wanted: u64) {
+    io::write_all(STDOUT_FILENO, b"case ");
+    io::print_decimal(STDOUT_FILENO, case as u64);
+    io::write_all(STDOUT_FILENO, b" gives ");
+    io::print_decimal(STDOUT_FILENO, got);
+    io::write_all(STDOUT_FILENO, b" and not ");
+    io::print_decimal(STDOUT_FILENO, wanted);
+    io::write_all(STDOUT_FILENO, b"\n");
 }
 
-// The line of a group: its name, and "N agree" if all its comparisons do.
-pub fn print_group(name: &[u8], t: Tally) {
+// The count after a case with a number for its answer.
+pub fn same(agreed: u32, case: u32, got: u64, wanted: u64) -> u32 {
+    if got != wanted {
+        print_case(case, got, wanted);
+        return agreed;
+    }
+    std::num::wrapping_add_u32(agreed, 1)
+}
+
+pub fn same_byte(agreed: u32, case: u32, got: u8, wanted: u8) -> u32 {
+    same(agreed, case, got as u64, wanted as u64)
+}
+
+pub fn same_number(agreed: u32, case: u32, got: u32, wanted: u32) -> u32 {
+    same(agreed, case, got as u64, wanted as u64)
+}
+
+pub fn same_count(agreed: u32, case: u32, got: usize, wanted: usize) -> u32 {
+    same(agreed, case, got as u64, wanted as u64)
+}
+
+// The count after a case that must hold.
+pub fn holds(agreed: u32, case: u32, is_so: bool) -> u32 {
+    same_number(agreed, case, one_if(is_so), 1)
+}
+
+// The line of a group.
+pub fn print_group(name: &[u8], agreed: u32) {
     io::write_all(STDOUT_FILENO, name);
     io::write_all(STDOUT_FILENO, b" ");
-    if t.agreed != t.compared {
-        io::print_decimal(STDOUT_FILENO, t.agreed as u64);
-        io::write_all(STDOUT_FILENO, b" of ");
-    }
-    io::print_decimal(STDOUT_FILENO, t.compared as u64);
+    io::print_decimal(STDOUT_FILENO, agreed as u64);
     io::write_all(STDOUT_FILENO, b" agree\n");
 }
 
 // The line of a group of random strips, with the number of those in which every mark has a label.
 pub fn print_random(name: &[u8], t: Tally) {
-    print_group(name, t);
+    print_group(name, t.agreed);
     io::write_all(STDOUT_FILENO, b"  every mark labelled in ");
     io::print_decimal(STDOUT_FILENO, t.whole as u64);
     io::write_all(STDOUT_FILENO, b"\n");
-}
-
-pub fn same_byte(t: Tally, case: u32, got: u8, wanted: u8) -> Tally {
-    same(t, case, got as u64, wanted as u64)
-}
-
-pub fn same_number(t: Tally, case: u32, got: u32, wanted: u32) -> Tally {
-    same(t, case, got as u64, wanted as u64)
-}
-
-pub fn same_count(t: Tally, case: u32, got: usize, wanted: usize) -> Tally {
-    same(t, case, got as u64, wanted as u64)
-}
-
-// The tally after a case that must hold.
-pub fn holds(t: Tally, case: u32, is_so: bool) -> Tally {
-    same_number(t, case, one_if(is_so), 1)
 }
 
 // Whether a list begins with these bytes.

@@ -1,22 +1,21 @@
 // Document 01's strips 1 to 11, run: lengths are 10, and weights 1 unless said.
 use crate::labels;
 use crate::tally;
-use tally::Tally;
 
 // The full pass must give this number, and this position list, with 77 where it must not write.
 fn full_gives(
-    t: Tally,
+    agreed: u32,
     strip: u32,
     places: &[i16],
     lengths: &[u8],
     weights: &[u16],
     number: u8,
     wanted: &[u8; 8],
-) -> Tally {
+) -> u32 {
     let mut positions = [77u8; 8];
     let mut work = [0i16; 20000];
     let got = full::full(places, lengths, weights, &mut positions, &mut work);
-    let first = tally::same_byte(t, strip, got, number);
+    let first = tally::same_byte(agreed, strip, got, number);
     tally::same(
         first,
         strip,
@@ -27,18 +26,18 @@ fn full_gives(
 
 // The slide pass must give this number.
 fn slide_gives(
-    t: Tally,
+    agreed: u32,
     strip: u32,
     places: &[i16],
     lengths: &[u8],
     weights: &[u16],
     number: u8,
-) -> Tally {
+) -> u32 {
     let mut sides = [77u8; 8];
     let mut edges = [0i16; 8];
     let mut work = [0u16; 30000];
     let got = slide::slide(places, lengths, weights, &mut sides, &mut edges, &mut work);
-    tally::same_byte(t, strip, got, number)
+    tally::same_byte(agreed, strip, got, number)
 }
 
 fn first_of(left_out: &[u16; 8]) -> u16 {
@@ -47,14 +46,14 @@ fn first_of(left_out: &[u16; 8]) -> u16 {
 
 // The best pass must give this sum and this count of left-out marks.
 fn best_gives(
-    t: Tally,
+    agreed: u32,
     strip: u32,
     places: &[i16],
     lengths: &[u8],
     weights: &[u16],
     sum: u32,
     count: usize,
-) -> Tally {
+) -> u32 {
     let mut positions = [77u8; 8];
     let mut left_out = [777u16; 8];
     let mut work = [0u32; 15000];
@@ -66,21 +65,21 @@ fn best_gives(
         &mut left_out,
         &mut work,
     );
-    let first = tally::same_byte(t, strip, got.number, 0);
+    let first = tally::same_byte(agreed, strip, got.number, 0);
     let second = tally::same_number(first, strip, got.sum, sum);
     tally::same_count(second, strip, got.count, count)
 }
 
 // The best pass must leave out this mark alone.
 fn best_leaves_out(
-    t: Tally,
+    agreed: u32,
     strip: u32,
     places: &[i16],
     lengths: &[u8],
     weights: &[u16],
     sum: u32,
     mark: u16,
-) -> Tally {
+) -> u32 {
     let mut positions = [77u8; 8];
     let mut left_out = [777u16; 8];
     let mut work = [0u32; 15000];
@@ -92,24 +91,24 @@ fn best_leaves_out(
         &mut left_out,
         &mut work,
     );
-    let first = tally::same_number(t, strip, got.sum, sum);
+    let first = tally::same_number(agreed, strip, got.sum, sum);
     let second = tally::same_count(first, strip, got.count, 1);
     tally::same_number(second, strip, first_of(&left_out) as u32, mark as u32)
 }
 
 // No marks.
-fn strip1(t: Tally) -> Tally {
+fn strip1(agreed: u32) -> u32 {
     let places = [0i16; 0];
     let lengths = [0u8; 0];
     let weights = [0u16; 0];
-    let a = full_gives(t, 1, &places, &lengths, &weights, 0, &[77; 8]);
+    let a = full_gives(agreed, 1, &places, &lengths, &weights, 0, &[77; 8]);
     let b = slide_gives(a, 1, &places, &lengths, &weights, 0);
     best_gives(b, 1, &places, &lengths, &weights, 0, 0)
 }
 
 // The first marks: all labels find room.
-fn strips2_to_4(t: Tally) -> Tally {
-    let a = full_gives(t, 2, &[0], &[10], &[1], 0, &[2, 77, 77, 77, 77, 77, 77, 77]);
+fn strips2_to_4(agreed: u32) -> u32 {
+    let a = full_gives(agreed, 2, &[0], &[10], &[1], 0, &[2, 77, 77, 77, 77, 77, 77, 77]);
     let b = full_gives(
         a,
         3,
@@ -131,11 +130,11 @@ fn strips2_to_4(t: Tally) -> Tally {
 }
 
 // Five marks side by side.
-fn strips5_and_6(t: Tally) -> Tally {
+fn strips5_and_6(agreed: u32) -> u32 {
     let places = [0i16, 1, 2, 3, 4];
     let lengths = [10u8; 5];
     let ones = [1u16; 5];
-    let a = full_gives(t, 5, &places, &lengths, &ones, 11, &[77; 8]);
+    let a = full_gives(agreed, 5, &places, &lengths, &ones, 11, &[77; 8]);
     let b = slide_gives(a, 5, &places, &lengths, &ones, 11);
     let c = best_gives(b, 5, &places, &lengths, &ones, 4, 1);
     let weights = [1u16, 9, 9, 9, 9];
@@ -143,11 +142,11 @@ fn strips5_and_6(t: Tally) -> Tally {
 }
 
 // Touching at 12, and the left position that must not be taken at 11.
-fn strips7_and_8(t: Tally) -> Tally {
+fn strips7_and_8(agreed: u32) -> u32 {
     let lengths = [10u8; 5];
     let weights = [1u16; 5];
     let a = full_gives(
-        t,
+        agreed,
         7,
         &[0, 1, 2, 3, 12],
         &lengths,
@@ -167,17 +166,17 @@ fn strips7_and_8(t: Tally) -> Tally {
 }
 
 // What sliding gains at 10, and not at 9.
-fn strips9_to_11(t: Tally) -> Tally {
+fn strips9_to_11(agreed: u32) -> u32 {
     let places = [0i16, 1, 2, 3, 10];
     let lengths = [10u8; 5];
     let ones = [1u16; 5];
-    let a = full_gives(t, 9, &places, &lengths, &ones, 11, &[77; 8]);
+    let a = full_gives(agreed, 9, &places, &lengths, &ones, 11, &[77; 8]);
     let b = slide_gives(a, 9, &places, &lengths, &ones, 0);
     let c = slide_gives(b, 10, &[0, 1, 2, 3, 9], &lengths, &ones, 11);
     let weights = [9u16, 2, 9, 9, 9];
     best_leaves_out(c, 11, &places, &lengths, &weights, 36, 2)
 }
 
-pub fn worked() -> Tally {
-    strips9_to_11(strips7_and_8(strips5_and_6(strips2_to_4(strip1(tally::none_yet())))))
+pub fn worked() -> u32 {
+    strips9_to_11(strips7_and_8(strips5_and_6(strips2_to_4(strip1(0)))))
 }
