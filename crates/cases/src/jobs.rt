@@ -1,4 +1,5 @@
 // Job bytes: strip 14, strip 11's job with each of its truncations, and each boundary of the reader and the writer.
+ghost use Prim.Native.Nat.{_≤_};
 use crate::tally;
 
 // Strip 11.
@@ -31,37 +32,35 @@ pub const STRIP11: [u8; 26] = [
     9,
 ];
 
-// What the reader must give for a job and three lists.
+// What the reader must give for a job and lists for so many places, lengths and weights.
 fn lists_give(
     agreed: u32,
     case: u32,
     job: &[u8],
-    places: &mut [i16],
-    lengths: &mut [u8],
-    weights: &mut [u16],
+    places: usize,
+    lengths: usize,
+    weights: usize,
     number: u8,
     count: usize,
-) -> u32 {
-    let got = job::reader::read(job, places, lengths, weights);
+) -> u32
+    requires { ⌜ (places ≤ 8) × (lengths ≤ 8) × (weights ≤ 8) ⌝ }
+{
+    let mut place_list = [0i16; 8];
+    let mut length_list = [0u8; 8];
+    let mut weight_list = [0u16; 8];
+    let got = job::reader::read(
+        job,
+        &mut place_list[..places],
+        &mut length_list[..lengths],
+        &mut weight_list[..weights],
+    );
     let first = tally::same_byte(agreed, case, got.number, number);
     tally::same_count(first, case, got.count, count)
 }
 
 // The same with lists for 8 marks.
 fn reads(agreed: u32, case: u32, job: &[u8], number: u8, count: usize) -> u32 {
-    let mut places = [0i16; 8];
-    let mut lengths = [0u8; 8];
-    let mut weights = [0u16; 8];
-    lists_give(
-        agreed,
-        case,
-        job,
-        &mut places,
-        &mut lengths,
-        &mut weights,
-        number,
-        count,
-    )
+    lists_give(agreed, case, job, 8, 8, 8, number, count)
 }
 
 fn refused(agreed: u32, case: u32, job: &[u8], number: u8) -> u32 {
@@ -183,57 +182,13 @@ fn strip11(agreed: u32) -> u32 {
     )
 }
 
+// Lists for the five marks, and one of them one short; too little room comes before what is wrong with a record.
 fn short_lists(agreed: u32) -> u32 {
-    let a = lists_give(
-        agreed,
-        371,
-        &STRIP11,
-        &mut [0; 5],
-        &mut [0; 5],
-        &mut [0; 5],
-        0,
-        5,
-    );
-    let b = lists_give(
-        a,
-        372,
-        &STRIP11,
-        &mut [0; 4],
-        &mut [0; 5],
-        &mut [0; 5],
-        9,
-        0,
-    );
-    let c = lists_give(
-        b,
-        373,
-        &STRIP11,
-        &mut [0; 5],
-        &mut [0; 4],
-        &mut [0; 5],
-        9,
-        0,
-    );
-    let d = lists_give(
-        c,
-        374,
-        &STRIP11,
-        &mut [0; 5],
-        &mut [0; 5],
-        &mut [0; 4],
-        9,
-        0,
-    );
-    lists_give(
-        d,
-        375,
-        &[0, 1, 0, 0, 8],
-        &mut [0; 0],
-        &mut [0; 1],
-        &mut [0; 1],
-        9,
-        0,
-    )
+    let a = lists_give(agreed, 371, &STRIP11, 5, 5, 5, 0, 5);
+    let b = lists_give(a, 372, &STRIP11, 4, 5, 5, 9, 0);
+    let c = lists_give(b, 373, &STRIP11, 5, 4, 5, 9, 0);
+    let d = lists_give(c, 374, &STRIP11, 5, 5, 4, 9, 0);
+    lists_give(d, 375, &[0, 1, 0, 0, 8], 0, 1, 1, 9, 0)
 }
 
 // What the writer must give for strip 11 and this output.
