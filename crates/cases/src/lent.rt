@@ -21,14 +21,7 @@ fn full_gives(agreed: u32, case: u32, positions: usize, work: usize, number: u8)
 }
 
 // The slide pass must give this number with a side list, a left edge list and a work area of these lengths.
-fn slide_gives(
-    agreed: u32,
-    case: u32,
-    sides: usize,
-    edges: usize,
-    work: usize,
-    number: u8,
-) -> u32
+fn slide_gives(agreed: u32, case: u32, sides: usize, edges: usize, work: usize, number: u8) -> u32
     requires { ⌜ (sides ≤ 3) × (edges ≤ 3) × (work ≤ 30000) ⌝ }
 {
     let mut side_list = [0u8; 3];

@@ -1,16 +1,23 @@
 // A test program: document 01's strips, each boundary, and random strips against a plain search through all choices. It prints a
 // line for each group, and a line for each case or strip that disagrees.
+mod choices;
 mod jobs;
 mod labels;
+mod left_out;
 mod leftmost;
 mod lent;
 mod listings;
+mod lists;
+mod passes;
+mod random;
 mod random_best;
 mod random_full;
 mod random_slide;
 mod ranges;
 mod search;
+mod slid;
 mod strip;
+mod sums;
 mod tally;
 mod worked;
 
@@ -23,8 +30,8 @@ fn random_corners() {
         shortest: 1,
         lengths: 24,
     };
-    tally::print_random(b"full random", random_full::random(3000, 1, draw));
-    tally::print_random(b"best random", random_best::random(3000, 2, draw));
+    tally::print_random(b"full random", random::random(choices::FULL, 1, draw));
+    tally::print_random(b"best random", random::random(choices::BEST, 2, draw));
 }
 
 // Labels of up to 4 dots, with which 6 marks always fit, and of 4 to 7.
@@ -39,10 +46,10 @@ fn random_slides() {
         shortest: 4,
         lengths: 4,
     };
-    tally::print_random(b"slide random", random_slide::random(3000, 3, short));
+    tally::print_random(b"slide random", random::random(choices::SLIDE, 3, short));
     tally::print_random(
         b"slide random, long labels",
-        random_slide::random(3000, 4, long),
+        random::random(choices::SLIDE, 4, long),
     );
 }
 

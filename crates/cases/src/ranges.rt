@@ -2,37 +2,9 @@
 ghost use Prim.Native.Nat.{_≤_};
 ghost use lib.ListN.{length};
 ghost use mathlib.Core.Path.{_≡_};
+use crate::passes;
 use crate::strip;
 use crate::tally;
-
-// The number that the full pass gives.
-fn full_number(places: &[i16], lengths: &[u8], weights: &[u16]) -> u8 {
-    let mut positions = [0u8; 4001];
-    let mut work = [0i16; 20000];
-    full::full(places, lengths, weights, &mut positions, &mut work)
-}
-
-fn slide_number(places: &[i16], lengths: &[u8], weights: &[u16]) -> u8 {
-    let mut sides = [0u8; 4001];
-    let mut edges = [0i16; 4001];
-    let mut work = [0u16; 30000];
-    slide::slide(places, lengths, weights, &mut sides, &mut edges, &mut work)
-}
-
-fn best_number(places: &[i16], lengths: &[u8], weights: &[u16]) -> u8 {
-    let mut positions = [0u8; 4001];
-    let mut left_out = [0u16; 4001];
-    let mut work = [0u32; 15000];
-    let got = best::best(
-        places,
-        lengths,
-        weights,
-        &mut positions,
-        &mut left_out,
-        &mut work,
-    );
-    got.number
-}
 
 fn writer_number(places: &[i16], lengths: &[u8], weights: &[u16]) -> u8 {
     let mut job = [0u8; 30000];
@@ -50,9 +22,24 @@ fn all_give(
     small: u8,
     large: u8,
 ) -> u32 {
-    let a = tally::same_byte(agreed, case, full_number(places, lengths, weights), large);
-    let b = tally::same_byte(a, case, slide_number(places, lengths, weights), small);
-    let c = tally::same_byte(b, case, best_number(places, lengths, weights), small);
+    let a = tally::same_byte(
+        agreed,
+        case,
+        passes::full_number(places, lengths, weights),
+        large,
+    );
+    let b = tally::same_byte(
+        a,
+        case,
+        passes::slide_number(places, lengths, weights),
+        small,
+    );
+    let c = tally::same_byte(
+        b,
+        case,
+        passes::best_number(places, lengths, weights),
+        small,
+    );
     tally::same_byte(c, case, writer_number(places, lengths, weights), large)
 }
 

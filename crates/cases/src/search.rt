@@ -1,4 +1,5 @@
 // A plain search through all choices.
+use crate::choices;
 use crate::labels;
 
 // Whether there is a placing, and which choice is the first.
@@ -11,13 +12,13 @@ pub enum Search {
 // The next choice to try after one whose labels overlap from mark `k` on. In the model FULL none is left out; sliding has too many
 // choices, and those are left out that have the same digits up to that of mark `k`.
 fn skipped(model: u32, n: usize, choice: u32, k: usize) -> u32 {
-    if model == labels::FULL {
+    if model == choices::FULL {
         return std::num::wrapping_add_u32(choice, 1);
     }
     if n <= k {
         return std::num::wrapping_add_u32(choice, 1);
     }
-    let after = labels::choices(model, n - k - 1);
+    let after = choices::choices(model, n - k - 1);
     if after == 0 {
         return std::num::wrapping_add_u32(choice, 1);
     }
@@ -29,14 +30,14 @@ const TURNS: u32 = 4000000;
 
 // The first choice that is a placing.
 pub fn first_placing(model: u32, dots: &[u8; 8], lengths: &[u8; 8], n: usize) -> Search {
-    let all = labels::choices(model, n);
+    let all = choices::choices(model, n);
     let mut choice = 0;
     let mut turn = 0;
     while turn < TURNS {
         if all <= choice {
             return Search::Nothing;
         }
-        let k = labels::clash(model, dots, lengths, n, &labels::digits(model, n, choice));
+        let k = labels::clash(model, dots, lengths, n, &choices::digits(model, n, choice));
         if n <= k {
             return Search::First(choice);
         }

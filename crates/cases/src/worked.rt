@@ -1,7 +1,8 @@
 // Document 01's strips 1 to 11, run: lengths are 10, and weights 1 unless said.
 ghost use Prim.Native.Nat.{_≤_};
 ghost use lib.ListN.{length};
-use crate::labels;
+use crate::lists;
+use crate::passes;
 use crate::tally;
 
 // The full pass must give this number, and this position list, with 77 where it must not write.
@@ -13,13 +14,19 @@ fn full_gives(agreed: u32, strip: u32, places: &[i16], number: u8, wanted: &[u8;
     let weights = [1u16; 5];
     let mut positions = [77u8; 8];
     let mut work = [0i16; 20000];
-    let got = full::full(places, &lengths[..n], &weights[..n], &mut positions, &mut work);
+    let got = full::full(
+        places,
+        &lengths[..n],
+        &weights[..n],
+        &mut positions,
+        &mut work,
+    );
     let first = tally::same_byte(agreed, strip, got, number);
     tally::same(
         first,
         strip,
-        labels::packed(&positions),
-        labels::packed(wanted),
+        lists::packed(&positions),
+        lists::packed(wanted),
     )
 }
 
@@ -30,17 +37,7 @@ fn slide_gives(agreed: u32, strip: u32, places: &[i16], number: u8) -> u32
     let n = places.len();
     let lengths = [10u8; 5];
     let weights = [1u16; 5];
-    let mut sides = [77u8; 8];
-    let mut edges = [0i16; 8];
-    let mut work = [0u16; 30000];
-    let got = slide::slide(
-        places,
-        &lengths[..n],
-        &weights[..n],
-        &mut sides,
-        &mut edges,
-        &mut work,
-    );
+    let got = passes::slide_number(places, &lengths[..n], &weights[..n]);
     tally::same_byte(agreed, strip, got, number)
 }
 
@@ -122,7 +119,13 @@ fn strips5_and_6(agreed: u32) -> u32 {
 
 // Touching at 12, and the left position that must not be taken at 11.
 fn strips7_and_8(agreed: u32) -> u32 {
-    let a = full_gives(agreed, 7, &[0, 1, 2, 3, 12], 0, &[2, 3, 1, 4, 1, 77, 77, 77]);
+    let a = full_gives(
+        agreed,
+        7,
+        &[0, 1, 2, 3, 12],
+        0,
+        &[2, 3, 1, 4, 1, 77, 77, 77],
+    );
     full_gives(a, 8, &[0, 1, 2, 3, 11], 0, &[2, 1, 3, 4, 1, 77, 77, 77])
 }
 

@@ -9,26 +9,17 @@ use Rattle.cases.proofs.worked.slide_gives.Tie as tie
 array-share-prefix-lengths : tie.Need-array-share-prefix-lengths
 array-share-prefix-lengths c = search needs
 
-slice-aggregate-slide : tie.Need-slice-aggregate-slide
-slice-aggregate-slide c = sym (length-take-le _ _ (omega arith))
+slice-aggregate-slide-number : tie.Need-slice-aggregate-slide-number
+slice-aggregate-slide-number c = sym (length-take-le _ _ (omega arith))
 
 array-share-prefix-weights : tie.Need-array-share-prefix-weights
 array-share-prefix-weights c = search needs
 
-slice-aggregate-slide-2 : tie.Need-slice-aggregate-slide-2
-slice-aggregate-slide-2 c = sym (length-take-le _ _ (omega arith))
+slice-aggregate-slide-number-2 : tie.Need-slice-aggregate-slide-number-2
+slice-aggregate-slide-number-2 c = sym (length-take-le _ _ (omega arith))
 
-slice-aggregate-slide-3 : tie.Need-slice-aggregate-slide-3
-slice-aggregate-slide-3 c = search needs
-
-slice-aggregate-slide-4 : tie.Need-slice-aggregate-slide-4
-slice-aggregate-slide-4 c = search needs
-
-slice-aggregate-slide-5 : tie.Need-slice-aggregate-slide-5
-slice-aggregate-slide-5 c = search needs
-
-slide-requires : tie.Need-slide-requires
-slide-requires c κs = search needs
+slide-number-requires : tie.Need-slide-number-requires
+slide-number-requires c κs = search needs
 
 same-byte-requires : tie.Need-same-byte-requires
 same-byte-requires c κs = search needs
@@ -41,12 +32,9 @@ slide-gives-spec =
     tie.close
     (tie.spec
     array-share-prefix-lengths
-    slice-aggregate-slide
+    slice-aggregate-slide-number
     array-share-prefix-weights
-    slice-aggregate-slide-2
-    slice-aggregate-slide-3
-    slice-aggregate-slide-4
-    slice-aggregate-slide-5
-    slide-requires
+    slice-aggregate-slide-number-2
+    slide-number-requires
     same-byte-requires
     returns)

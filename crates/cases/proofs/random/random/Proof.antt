@@ -1,14 +1,14 @@
--- `cases::random_slide::random` is safe and ends: `i` rises to `strips`.
+-- `cases::random::random` is safe and ends: `i` rises to `3000`.
 use Prim.Native.Nat.{_≤_, _-_}
 use borrow.Author.Needs.{needs}
-use Rattle.cases.proofs.random_slide.random.Statement.{statement}
-use Rattle.cases.proofs.random_slide.random.Tie as tie
+use Rattle.cases.proofs.random.random.Statement.{statement}
+use Rattle.cases.proofs.random.random.Tie as tie
 
 abbrev Inv-loop : tie.InvT-loop
-Inv-loop strips seed draw t₀ from₀ i₀ t from i = i ≤ strips
+Inv-loop model seed draw dots₀ places₀ lengths₀ weights₀ t₀ from₀ i₀ dots places lengths weights t from i = i ≤ 3000
 
 abbrev μ-loop : tie.MeasureT-loop
-μ-loop strips seed draw t₀ from₀ i₀ t from i = strips - i
+μ-loop model seed draw dots₀ places₀ lengths₀ weights₀ t₀ from₀ i₀ dots places lengths weights t from i = 3000 - i
 
 none-yet-requires : tie.Need-none-yet-requires Inv-loop μ-loop
 none-yet-requires c κs = search needs
@@ -16,8 +16,14 @@ none-yet-requires c κs = search needs
 loop-holds : tie.Need-loop-holds Inv-loop μ-loop
 loop-holds c = search needs
 
-random-strip-requires : tie.Need-random-strip-requires Inv-loop μ-loop
-random-strip-requires c κs = search needs
+next-requires : tie.Need-next-requires Inv-loop μ-loop
+next-requires c κs = search needs
+
+count-from-requires : tie.Need-count-from-requires Inv-loop μ-loop
+count-from-requires c κs = search needs
+
+set-marks-requires : tie.Need-set-marks-requires Inv-loop μ-loop
+set-marks-requires c κs = search needs
 
 compared-requires : tie.Need-compared-requires Inv-loop μ-loop
 compared-requires c κs = search needs
@@ -42,7 +48,9 @@ random-spec =
     μ-loop
     none-yet-requires
     loop-holds
-    random-strip-requires
+    next-requires
+    count-from-requires
+    set-marks-requires
     compared-requires
     add-i
     loop-less
