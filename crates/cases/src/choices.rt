@@ -18,14 +18,14 @@ pub const SLIDE: u32 = 2;
 
 pub const HALVES: u32 = 3;
 
-// The powers of the number of values that a digit has: 4, 5, and for labels of at most 7 dots 2 * (7 + 1) and 2 * (14 + 1).
-const FOURS: [u32; 7] = [1, 4, 16, 64, 256, 1024, 4096];
-
-const FIVES: [u32; 7] = [1, 5, 25, 125, 625, 3125, 15625];
-
-const SIXTEENS: [u32; 7] = [1, 16, 256, 4096, 65536, 1048576, 16777216];
-
-const THIRTIES: [u32; 7] = [1, 30, 900, 27000, 810000, 24300000, 729000000];
+// For each model, the powers of the number of values that a digit has: 4, 5, and for labels of at most 7 dots 2 * (7 + 1) and
+// 2 * (14 + 1).
+const POWERS: [[u32; 7]; 4] = [
+    [1, 4, 16, 64, 256, 1024, 4096],
+    [1, 5, 25, 125, 625, 3125, 15625],
+    [1, 16, 256, 4096, 65536, 1048576, 16777216],
+    [1, 30, 900, 27000, 810000, 24300000, 729000000],
+];
 
 // How many values a digit has.
 fn values(model: u32) -> u32
@@ -48,16 +48,10 @@ pub fn choices(model: u32, k: usize) -> u32 {
     if 7 <= k {
         return 0;
     }
-    if model == FULL {
-        return FOURS[k];
+    if 4 <= model {
+        return 0;
     }
-    if model == BEST {
-        return FIVES[k];
-    }
-    if model == SLIDE {
-        return SIXTEENS[k];
-    }
-    THIRTIES[k]
+    POWERS[model as usize][k]
 }
 
 // The digit of mark `i` in a choice for `n` marks, 0 behind the last.

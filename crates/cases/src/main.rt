@@ -30,8 +30,8 @@ fn random_corners() {
         shortest: 1,
         lengths: 24,
     };
-    tally::print_random(b"full random", random::random(choices::FULL, 1, draw));
-    tally::print_random(b"best random", random::random(choices::BEST, 2, draw));
+    random::random(b"full random", choices::FULL, 1, draw);
+    random::random(b"best random", choices::BEST, 2, draw);
 }
 
 // Labels of up to 4 dots, with which 6 marks always fit, and of 4 to 7.
@@ -46,11 +46,8 @@ fn random_slides() {
         shortest: 4,
         lengths: 4,
     };
-    tally::print_random(b"slide random", random::random(choices::SLIDE, 3, short));
-    tally::print_random(
-        b"slide random, long labels",
-        random::random(choices::SLIDE, 4, long),
-    );
+    random::random(b"slide random", choices::SLIDE, 3, short);
+    random::random(b"slide random, long labels", choices::SLIDE, 4, long);
 }
 
 fn main() {

@@ -7,39 +7,53 @@ use crate::random_slide;
 use crate::strip;
 use crate::tally;
 use strip::Draw;
-use tally::Tally;
 
-// The tally after one more strip for the model's pass.
+// What a strip shows of the model's pass.
 fn compared(
     model: u32,
-    t: Tally,
     n: usize,
     dots: &[u8; 8],
     places: &[i16; 8],
     lengths: &[u8; 8],
     weights: &[u16; 8],
-) -> Tally
+) -> u8
     requires { ⌜ n ≤ 8 ⌝ }
 {
     if model == choices::FULL {
-        return random_full::compared(t, n, dots, places, lengths, weights);
+        return random_full::compared(n, dots, places, lengths, weights);
     }
     if model == choices::BEST {
-        return random_best::compared(t, n, dots, places, lengths, weights);
+        return random_best::compared(n, dots, places, lengths, weights);
     }
-    random_slide::compared(t, n, dots, places, lengths, weights)
+    random_slide::compared(n, dots, places, lengths, weights)
+}
+
+// The line for a strip on which a pass of this group disagrees: place, length and weight of each mark.
+fn print_strip(group: &[u8], n: usize, dots: &[u8; 8], lengths: &[u8; 8], weights: &[u16; 8]) {
+    tally::print(group);
+    tally::print(b" disagrees on");
+    strip::print_marks(n, dots, lengths, weights);
+    tally::print(b"\n");
+}
+
+// The lines of a group: how many strips agree, and in how many every mark has a label.
+fn print_random(group: &[u8], agreed: u32, whole: u32) {
+    tally::print_group(group, agreed);
+    tally::print_number(b"  every mark labelled in ", whole as u64);
+    tally::print(b"\n");
 }
 
 // How many strips a group has.
 const STRIPS: u32 = 3000;
 
 // The strips from a seed on.
-pub fn random(model: u32, seed: u64, draw: Draw) -> Tally {
+pub fn random(group: &[u8], model: u32, seed: u64, draw: Draw) {
     let mut dots = [0u8; 8];
     let mut places = [0i16; 8];
     let mut lengths = [0u8; 8];
     let mut weights = [0u16; 8];
-    let mut t = tally::none_yet();
+    let mut agreed = 0;
+    let mut whole = 0;
     let mut from = seed;
     let mut i = 0;
     while i < STRIPS {
@@ -53,8 +67,13 @@ pub fn random(model: u32, seed: u64, draw: Draw) -> Tally {
             &mut lengths,
             &mut weights,
         );
-        t = compared(model, t, n, &dots, &places, &lengths, &weights);
+        let shown = compared(model, n, &dots, &places, &lengths, &weights);
+        if shown == tally::DISAGREES {
+            print_strip(group, n, &dots, &lengths, &weights);
+        }
+        agreed = tally::counted(agreed, shown != tally::DISAGREES);
+        whole = tally::counted(whole, shown == tally::AGREES_WHOLE);
         i += 1;
     }
-    t
+    print_random(group, agreed, whole);
 }

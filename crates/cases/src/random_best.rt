@@ -5,11 +5,9 @@ ghost use lib.ListN.{length};
 use crate::choices;
 use crate::labels;
 use crate::left_out;
-use crate::strip;
 use crate::sums;
 use crate::tally;
 use best::answer::Best;
-use tally::Tally;
 
 // The pass on the first `n` marks.
 fn run_first(
@@ -53,13 +51,12 @@ fn earns(
 
 // One strip.
 pub fn compared(
-    t: Tally,
     n: usize,
     dots: &[u8; 8],
     places: &[i16; 8],
     lengths: &[u8; 8],
     weights: &[u16; 8],
-) -> Tally
+) -> u8
     requires { ⌜ n ≤ 8 ⌝ }
 {
     let mut positions = [77u8; 8];
@@ -68,8 +65,5 @@ pub fn compared(
     let agreed = best.number == 0
         && earns(n, dots, lengths, weights, &positions, best.sum)
         && left_out::is_left_out_set(n, &positions, &left_out, best.count);
-    if !agreed {
-        strip::print_strip(b"best", n, dots, lengths, weights);
-    }
-    tally::after(t, agreed, best.count == 0)
+    tally::outcome(agreed, best.count == 0)
 }

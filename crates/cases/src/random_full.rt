@@ -5,10 +5,8 @@ use crate::choices;
 use crate::labels;
 use crate::lists;
 use crate::search;
-use crate::strip;
 use crate::tally;
 use search::Search;
-use tally::Tally;
 
 // The pass on the first `n` marks.
 fn run_first(n: usize, places: &[i16], lengths: &[u8], weights: &[u16], positions: &mut [u8]) -> u8
@@ -68,21 +66,17 @@ fn agrees(n: usize, found: Search, number: u8, positions: &[u8; 8]) -> bool {
 
 // One strip.
 pub fn compared(
-    t: Tally,
     n: usize,
     dots: &[u8; 8],
     places: &[i16; 8],
     lengths: &[u8; 8],
     weights: &[u16; 8],
-) -> Tally
+) -> u8
     requires { ⌜ n ≤ 8 ⌝ }
 {
     let mut positions = [77u8; 8];
     let number = run_first(n, places, lengths, weights, &mut positions);
     let found = search::first_placing(choices::FULL, dots, lengths, n);
     let agreed = agrees(n, found, number, &positions);
-    if !agreed {
-        strip::print_strip(b"full", n, dots, lengths, weights);
-    }
-    tally::after(t, agreed, number == 0)
+    tally::outcome(agreed, number == 0)
 }

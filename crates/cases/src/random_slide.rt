@@ -8,10 +8,8 @@ use crate::leftmost;
 use crate::lists;
 use crate::search;
 use crate::slid;
-use crate::strip;
 use crate::tally;
 use search::Search;
-use tally::Tally;
 
 // The pass on the first `n` marks.
 fn run_first(
@@ -136,21 +134,17 @@ fn agrees(
 
 // One strip.
 pub fn compared(
-    t: Tally,
     n: usize,
     dots: &[u8; 8],
     places: &[i16; 8],
     lengths: &[u8; 8],
     weights: &[u16; 8],
-) -> Tally
+) -> u8
     requires { ⌜ n ≤ 8 ⌝ }
 {
     let mut sides = [77u8; 8];
     let mut edges = [7777i16; 8];
     let number = run_first(n, places, lengths, weights, &mut sides, &mut edges);
     let agreed = agrees(n, dots, lengths, number, &sides, &edges);
-    if !agreed {
-        strip::print_strip(b"slide", n, dots, lengths, weights);
-    }
-    tally::after(t, agreed, number == 0)
+    tally::outcome(agreed, number == 0)
 }

@@ -4,7 +4,7 @@
 // of marks and four lists of 8 elements, of which the first so many are used.
 ghost use Prim.Native.Nat.{_≤_, _<_};
 use crate::lists;
-use libc::STDOUT_FILENO;
+use crate::tally;
 
 // The multiplicative generator with modulus 2^31 − 1.
 pub fn next(seed: u64) -> u64 {
@@ -102,25 +102,21 @@ fn wider(x: u8) -> u64 {
 // The place of a mark, with its sign.
 fn print_place(dot: u64) {
     if dot < 64 {
-        io::write_all(STDOUT_FILENO, b" -");
-        io::print_decimal(STDOUT_FILENO, 64 - dot);
+        tally::print_number(b" -", 64 - dot);
         return;
     }
-    io::write_all(STDOUT_FILENO, b" ");
-    io::print_decimal(STDOUT_FILENO, dot - 64);
+    tally::print_number(b" ", dot - 64);
 }
 
-// The place, length and weight of a mark.
 fn print_mark(dot: u64, length: u64, weight: u64) {
     print_place(dot);
-    io::write_all(STDOUT_FILENO, b" ");
-    io::print_decimal(STDOUT_FILENO, length);
-    io::write_all(STDOUT_FILENO, b" ");
-    io::print_decimal(STDOUT_FILENO, weight);
-    io::write_all(STDOUT_FILENO, b",");
+    tally::print_number(b" ", length);
+    tally::print_number(b" ", weight);
+    tally::print(b",");
 }
 
-fn print_marks(n: usize, dots: &[u8; 8], lengths: &[u8; 8], weights: &[u16; 8]) {
+// The place, length and weight of each mark.
+pub fn print_marks(n: usize, dots: &[u8; 8], lengths: &[u8; 8], weights: &[u16; 8]) {
     let mut i = 0;
     while i < n {
         print_mark(
@@ -130,12 +126,4 @@ fn print_marks(n: usize, dots: &[u8; 8], lengths: &[u8; 8], weights: &[u16; 8]) 
         );
         i += 1;
     }
-}
-
-// The line for a strip on which the named pass disagrees: place, length and weight of each mark.
-pub fn print_strip(pass: &[u8], n: usize, dots: &[u8; 8], lengths: &[u8; 8], weights: &[u16; 8]) {
-    io::write_all(STDOUT_FILENO, pass);
-    io::write_all(STDOUT_FILENO, b" disagrees on");
-    print_marks(n, dots, lengths, weights);
-    io::write_all(STDOUT_FILENO, b"\n");
 }

@@ -2,40 +2,45 @@
 // prints a line of its own.
 use libc::STDOUT_FILENO;
 
-// Of random strips: how many agreed, and how many have every mark labelled.
-pub struct Tally {
-    pub agreed: u32,
-    pub whole: u32,
-}
+// What a random strip shows of a pass: it disagrees, or agrees, or agrees and has a label for every mark.
+pub const DISAGREES: u8 = 0;
 
-pub fn none_yet() -> Tally {
-    Tally {
-        agreed: 0,
-        whole: 0,
+pub const AGREES: u8 = 1;
+
+pub const AGREES_WHOLE: u8 = 2;
+
+pub fn outcome(agrees: bool, is_whole: bool) -> u8 {
+    if !agrees {
+        return DISAGREES;
     }
+    if is_whole { AGREES_WHOLE } else { AGREES }
 }
 
 fn one_if(test: bool) -> u32 {
     if test { 1 } else { 0 }
 }
 
-// The tally after one more random strip.
-pub fn after(t: Tally, agrees: bool, is_whole: bool) -> Tally {
-    Tally {
-        agreed: std::num::wrapping_add_u32(t.agreed, one_if(agrees)),
-        whole: std::num::wrapping_add_u32(t.whole, one_if(is_whole)),
-    }
+// One more if the test holds.
+pub fn counted(count: u32, test: bool) -> u32 {
+    std::num::wrapping_add_u32(count, one_if(test))
+}
+
+pub fn print(text: &[u8]) {
+    io::write_all(STDOUT_FILENO, text);
+}
+
+// A text and a number behind it.
+pub fn print_number(text: &[u8], number: u64) {
+    io::write_all(STDOUT_FILENO, text);
+    io::print_decimal(STDOUT_FILENO, number);
 }
 
 // The line for a case that disagrees.
 fn print_case(case: u32, got: u64, wanted: u64) {
-    io::write_all(STDOUT_FILENO, b"case ");
-    io::print_decimal(STDOUT_FILENO, case as u64);
-    io::write_all(STDOUT_FILENO, b" gives ");
-    io::print_decimal(STDOUT_FILENO, got);
-    io::write_all(STDOUT_FILENO, b" and not ");
-    io::print_decimal(STDOUT_FILENO, wanted);
-    io::write_all(STDOUT_FILENO, b"\n");
+    print_number(b"case ", case as u64);
+    print_number(b" gives ", got);
+    print_number(b" and not ", wanted);
+    print(b"\n");
 }
 
 // The count after a case with a number for its answer.
@@ -66,18 +71,9 @@ pub fn holds(agreed: u32, case: u32, is_so: bool) -> u32 {
 
 // The line of a group.
 pub fn print_group(name: &[u8], agreed: u32) {
-    io::write_all(STDOUT_FILENO, name);
-    io::write_all(STDOUT_FILENO, b" ");
-    io::print_decimal(STDOUT_FILENO, agreed as u64);
-    io::write_all(STDOUT_FILENO, b" agree\n");
-}
-
-// The line of a group of random strips, with the number of those in which every mark has a label.
-pub fn print_random(name: &[u8], t: Tally) {
-    print_group(name, t.agreed);
-    io::write_all(STDOUT_FILENO, b"  every mark labelled in ");
-    io::print_decimal(STDOUT_FILENO, t.whole as u64);
-    io::write_all(STDOUT_FILENO, b"\n");
+    print(name);
+    print_number(b" ", agreed as u64);
+    print(b" agree\n");
 }
 
 // Whether a list begins with these bytes.

@@ -5,13 +5,10 @@ use Rattle.cases.proofs.random.random.Statement.{statement}
 use Rattle.cases.proofs.random.random.Tie as tie
 
 abbrev Inv-loop : tie.InvT-loop
-Inv-loop model seed draw dots₀ places₀ lengths₀ weights₀ t₀ from₀ i₀ dots places lengths weights t from i = i ≤ 3000
+Inv-loop group model seed draw dots₀ places₀ lengths₀ weights₀ agreed₀ whole₀ from₀ i₀ dots places lengths weights agreed whole from i = i ≤ 3000
 
 abbrev μ-loop : tie.MeasureT-loop
-μ-loop model seed draw dots₀ places₀ lengths₀ weights₀ t₀ from₀ i₀ dots places lengths weights t from i = 3000 - i
-
-none-yet-requires : tie.Need-none-yet-requires Inv-loop μ-loop
-none-yet-requires c κs = search needs
+μ-loop group model seed draw dots₀ places₀ lengths₀ weights₀ agreed₀ whole₀ from₀ i₀ dots places lengths weights agreed whole from i = 3000 - i
 
 loop-holds : tie.Need-loop-holds Inv-loop μ-loop
 loop-holds c = search needs
@@ -28,6 +25,15 @@ set-marks-requires c κs = search needs
 compared-requires : tie.Need-compared-requires Inv-loop μ-loop
 compared-requires c κs = search needs
 
+print-strip-requires : tie.Need-print-strip-requires Inv-loop μ-loop
+print-strip-requires c κs = search needs
+
+counted-requires : tie.Need-counted-requires Inv-loop μ-loop
+counted-requires c κs = search needs
+
+counted-requires-2 : tie.Need-counted-requires-2 Inv-loop μ-loop
+counted-requires-2 c κs = search needs
+
 add-i : tie.Need-add-i Inv-loop μ-loop
 add-i c = search needs
 
@@ -36,6 +42,9 @@ loop-less c = search needs
 
 loop-again : tie.Need-loop-again Inv-loop μ-loop
 loop-again c = search needs
+
+print-random-requires : tie.Need-print-random-requires Inv-loop μ-loop
+print-random-requires c κs = search needs
 
 returns : tie.Need-returns Inv-loop μ-loop
 returns c = search needs
@@ -46,13 +55,16 @@ random-spec =
     (tie.spec
     Inv-loop
     μ-loop
-    none-yet-requires
     loop-holds
     next-requires
     count-from-requires
     set-marks-requires
     compared-requires
+    print-strip-requires
+    counted-requires
+    counted-requires-2
     add-i
     loop-less
     loop-again
+    print-random-requires
     returns)
