@@ -18,16 +18,7 @@ pub const SLIDE: u32 = 2;
 
 pub const HALVES: u32 = 3;
 
-// For each model, the powers of the number of values that a digit has: 4, 5, and for labels of at most 7 dots 2 * (7 + 1) and
-// 2 * (14 + 1).
-const POWERS: [[u32; 7]; 4] = [
-    [1, 4, 16, 64, 256, 1024, 4096],
-    [1, 5, 25, 125, 625, 3125, 15625],
-    [1, 16, 256, 4096, 65536, 1048576, 16777216],
-    [1, 30, 900, 27000, 810000, 24300000, 729000000],
-];
-
-// How many values a digit has.
+// How many values a digit has; sliding has labels of at most 7 dots.
 fn values(model: u32) -> u32
     ensures { λ r. ⌜ (0 < r) × (r ≤ 30) ⌝ }
 {
@@ -43,15 +34,30 @@ fn values(model: u32) -> u32
     30
 }
 
+// The choices with one mark more; the remainder is all of them, and shows that the product fits.
+fn with_one_more(model: u32, choices: u32) -> u32 {
+    let all = choices % 100000000;
+    if model == FULL {
+        return 4 * all;
+    }
+    if model == BEST {
+        return 5 * all;
+    }
+    if model == SLIDE {
+        return 16 * all;
+    }
+    30 * all
+}
+
 // How many choices there are for `k` marks, at most 6.
 pub fn choices(model: u32, k: usize) -> u32 {
-    if 7 <= k {
-        return 0;
+    let mut all = 1;
+    let mut i = 0;
+    while i < k {
+        all = with_one_more(model, all);
+        i += 1;
     }
-    if 4 <= model {
-        return 0;
-    }
-    POWERS[model as usize][k]
+    all
 }
 
 // The digit of mark `i` in a choice for `n` marks, 0 behind the last.

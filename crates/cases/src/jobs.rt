@@ -68,60 +68,60 @@ fn refused(agreed: u32, case: u32, job: &[u8], number: u8) -> u32 {
 }
 
 fn strip14(agreed: u32) -> u32 {
-    let a = reads(agreed, 301, &[0, 0, 0, 0], 0, 0);
-    let b = refused(a, 302, &[0, 0, 0, 1], 4);
-    let c = refused(b, 303, &[0, 1, 0, 0, 2, 8], 3);
-    let d = refused(c, 304, &[0, 0, 0, 0, 0], 5);
-    refused(d, 305, &[0, 0, 255, 255], 4)
+    let a = reads(agreed, 301, b"\x00\x00\x00\x00", 0, 0);
+    let b = refused(a, 302, b"\x00\x00\x00\x01", 4);
+    let c = refused(b, 303, b"\x00\x01\x00\x00\x02\x08", 3);
+    let d = refused(c, 304, b"\x00\x00\x00\x00\x00", 5);
+    refused(d, 305, b"\x00\x00\xff\xff", 4)
 }
 
 // The header: count and first place.
 fn headers(agreed: u32) -> u32 {
-    let a = refused(agreed, 311, &[15, 161, 0, 0], 4);
-    let b = refused(a, 312, &[255, 255, 0, 0], 4);
-    let c = reads(b, 313, &[0, 1, 117, 48, 0], 0, 1);
-    let d = refused(c, 314, &[0, 1, 117, 49, 0], 4);
-    let e = reads(d, 315, &[0, 1, 138, 208, 0], 0, 1);
-    let f = refused(e, 316, &[0, 1, 138, 207, 0], 4);
-    refused(f, 317, &[15, 160, 0, 0], 9)
+    let a = refused(agreed, 311, b"\x0f\xa1\x00\x00", 4);
+    let b = refused(a, 312, b"\xff\xff\x00\x00", 4);
+    let c = reads(b, 313, b"\x00\x01\x75\x30\x00", 0, 1);
+    let d = refused(c, 314, b"\x00\x01\x75\x31\x00", 4);
+    let e = reads(d, 315, b"\x00\x01\x8a\xd0\x00", 0, 1);
+    let f = refused(e, 316, b"\x00\x01\x8a\xcf\x00", 4);
+    refused(f, 317, b"\x0f\xa0\x00\x00", 9)
 }
 
 // The bit map.
 fn maps(agreed: u32) -> u32 {
-    let a = refused(agreed, 321, &[0, 1, 0, 0, 8], 2);
-    let b = refused(a, 322, &[0, 1, 0, 0, 128], 2);
-    let c = refused(b, 323, &[0, 1, 0, 0, 1, 0, 2], 2);
-    let d = refused(c, 324, &[0, 2, 0, 0, 0, 16], 2);
-    let e = refused(d, 325, &[0, 2, 0, 0, 0], 1);
-    refused(e, 326, &[0, 1, 0, 0, 255], 2)
+    let a = refused(agreed, 321, b"\x00\x01\x00\x00\x08", 2);
+    let b = refused(a, 322, b"\x00\x01\x00\x00\x80", 2);
+    let c = refused(b, 323, b"\x00\x01\x00\x00\x01\x00\x02", 2);
+    let d = refused(c, 324, b"\x00\x02\x00\x00\x00\x10", 2);
+    let e = refused(d, 325, b"\x00\x02\x00\x00\x00", 1);
+    refused(e, 326, b"\x00\x01\x00\x00\xff", 2)
 }
 
 // The step, and the place that it leads to.
 fn steps(agreed: u32) -> u32 {
-    let a = refused(agreed, 331, &[0, 2, 0, 0, 0, 1, 0, 0], 4);
-    let b = refused(a, 332, &[0, 2, 0, 0, 0, 1, 0, 1], 3);
-    let c = reads(b, 333, &[0, 2, 0, 0, 0, 1, 0, 2], 0, 2);
-    let d = reads(c, 334, &[0, 2, 138, 208, 0, 1, 234, 96], 0, 2);
-    let e = refused(d, 335, &[0, 2, 138, 208, 0, 1, 234, 97], 4);
-    let f = refused(e, 336, &[0, 2, 138, 209, 0, 1, 234, 96], 4);
-    let g = refused(f, 337, &[0, 2, 117, 48, 0, 0], 4);
-    refused(g, 338, &[0, 2, 0, 0, 0, 1, 0], 1)
+    let a = refused(agreed, 331, b"\x00\x02\x00\x00\x00\x01\x00\x00", 4);
+    let b = refused(a, 332, b"\x00\x02\x00\x00\x00\x01\x00\x01", 3);
+    let c = reads(b, 333, b"\x00\x02\x00\x00\x00\x01\x00\x02", 0, 2);
+    let d = reads(c, 334, b"\x00\x02\x8a\xd0\x00\x01\xea\x60", 0, 2);
+    let e = refused(d, 335, b"\x00\x02\x8a\xd0\x00\x01\xea\x61", 4);
+    let f = refused(e, 336, b"\x00\x02\x8a\xd1\x00\x01\xea\x60", 4);
+    let g = refused(f, 337, b"\x00\x02\x75\x30\x00\x00", 4);
+    refused(g, 338, b"\x00\x02\x00\x00\x00\x01\x00", 1)
 }
 
 fn lengths(agreed: u32) -> u32 {
-    let a = refused(agreed, 341, &[0, 1, 0, 0, 2, 0], 4);
-    let b = reads(a, 342, &[0, 1, 0, 0, 2, 1], 0, 1);
-    let c = reads(b, 343, &[0, 1, 0, 0, 2, 240], 0, 1);
-    let d = refused(c, 344, &[0, 1, 0, 0, 2, 241], 4);
-    refused(d, 345, &[0, 1, 0, 0, 2], 1)
+    let a = refused(agreed, 341, b"\x00\x01\x00\x00\x02\x00", 4);
+    let b = reads(a, 342, b"\x00\x01\x00\x00\x02\x01", 0, 1);
+    let c = reads(b, 343, b"\x00\x01\x00\x00\x02\xf0", 0, 1);
+    let d = refused(c, 344, b"\x00\x01\x00\x00\x02\xf1", 4);
+    refused(d, 345, b"\x00\x01\x00\x00\x02", 1)
 }
 
 fn weights(agreed: u32) -> u32 {
-    let a = refused(agreed, 351, &[0, 1, 0, 0, 4, 0, 0], 4);
-    let b = refused(a, 352, &[0, 1, 0, 0, 4, 0, 1], 3);
-    let c = reads(b, 353, &[0, 1, 0, 0, 4, 3, 232], 0, 1);
-    let d = refused(c, 354, &[0, 1, 0, 0, 4, 3, 233], 4);
-    refused(d, 355, &[0, 1, 0, 0, 4, 3], 1)
+    let a = refused(agreed, 351, b"\x00\x01\x00\x00\x04\x00\x00", 4);
+    let b = refused(a, 352, b"\x00\x01\x00\x00\x04\x00\x01", 3);
+    let c = reads(b, 353, b"\x00\x01\x00\x00\x04\x03\xe8", 0, 1);
+    let d = refused(c, 354, b"\x00\x01\x00\x00\x04\x03\xe9", 4);
+    refused(d, 355, b"\x00\x01\x00\x00\x04\x03", 1)
 }
 
 // The first `k` bytes of a job, which must be refused with 1.
@@ -149,35 +149,7 @@ fn strip11(agreed: u32) -> u32 {
     refused(
         b,
         363,
-        &[
-            0,
-            5,
-            0,
-            0,
-            6,
-            10,
-            0,
-            9,
-            6,
-            10,
-            0,
-            2,
-            6,
-            10,
-            0,
-            9,
-            6,
-            10,
-            0,
-            9,
-            7,
-            0,
-            7,
-            10,
-            0,
-            9,
-            0,
-        ],
+        b"\x00\x05\x00\x00\x06\x0a\x00\x09\x06\x0a\x00\x02\x06\x0a\x00\x09\x06\x0a\x00\x09\x07\x00\x07\x0a\x00\x09\x00",
         5,
     )
 }
@@ -188,7 +160,7 @@ fn short_lists(agreed: u32) -> u32 {
     let b = lists_give(a, 372, &STRIP11, 4, 5, 5, 9, 0);
     let c = lists_give(b, 373, &STRIP11, 5, 4, 5, 9, 0);
     let d = lists_give(c, 374, &STRIP11, 5, 5, 4, 9, 0);
-    lists_give(d, 375, &[0, 1, 0, 0, 8], 0, 1, 1, 9, 0)
+    lists_give(d, 375, b"\x00\x01\x00\x00\x08", 0, 1, 1, 9, 0)
 }
 
 // What the writer must give for strip 11 and this output.

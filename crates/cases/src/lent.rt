@@ -2,10 +2,7 @@
 ghost use Prim.Native.Nat.{_≤_};
 use crate::tally;
 
-// The number that the full pass gives for three marks side by side, in the memory that is lent to it.
-fn full_on_three(positions: &mut [u8], work: &mut [i16]) -> u8 {
-    full::full(&[0, 1, 2], &[10; 3], &[1; 3], positions, work)
-}
+const PLACES: [i16; 3] = [0, 1, 2];
 
 // The full pass must give this number with a position list and a work area of these lengths.
 fn full_gives(agreed: u32, case: u32, positions: usize, work: usize, number: u8) -> u32
@@ -13,13 +10,14 @@ fn full_gives(agreed: u32, case: u32, positions: usize, work: usize, number: u8)
 {
     let mut position_list = [0u8; 3];
     let mut work_area = [0i16; 20000];
-    let got = full_on_three(&mut position_list[..positions], &mut work_area[..work]);
+    let got = full::full(
+        &PLACES,
+        &[10; 3],
+        &[1; 3],
+        &mut position_list[..positions],
+        &mut work_area[..work],
+    );
     tally::same_byte(agreed, case, got, number)
-}
-
-// The same of the slide pass.
-fn slide_on_three(sides: &mut [u8], edges: &mut [i16], work: &mut [u16]) -> u8 {
-    slide::slide(&[0, 1, 2], &[10; 3], &[1; 3], sides, edges, work)
 }
 
 // The slide pass must give this number with a side list, a left edge list and a work area of these lengths.
@@ -29,18 +27,15 @@ fn slide_gives(agreed: u32, case: u32, sides: usize, edges: usize, work: usize, 
     let mut side_list = [0u8; 3];
     let mut edge_list = [0i16; 3];
     let mut work_area = [0u16; 30000];
-    let got = slide_on_three(
+    let got = slide::slide(
+        &PLACES,
+        &[10; 3],
+        &[1; 3],
         &mut side_list[..sides],
         &mut edge_list[..edges],
         &mut work_area[..work],
     );
     tally::same_byte(agreed, case, got, number)
-}
-
-// The same of the best pass.
-fn best_on_three(positions: &mut [u8], left_out: &mut [u16], work: &mut [u32]) -> u8 {
-    let got = best::best(&[0, 1, 2], &[10; 3], &[1; 3], positions, left_out, work);
-    got.number
 }
 
 // The best pass must give this number with a position list, a left-out list and a work area of these lengths.
@@ -57,12 +52,15 @@ fn best_gives(
     let mut position_list = [0u8; 3];
     let mut left_out_list = [0u16; 3];
     let mut work_area = [0u32; 15000];
-    let got = best_on_three(
+    let got = best::best(
+        &PLACES,
+        &[10; 3],
+        &[1; 3],
         &mut position_list[..positions],
         &mut left_out_list[..left_out],
         &mut work_area[..work],
     );
-    tally::same_byte(agreed, case, got, number)
+    tally::same_byte(agreed, case, got.number, number)
 }
 
 fn full_lent(agreed: u32) -> u32 {

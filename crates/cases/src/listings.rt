@@ -26,50 +26,27 @@ fn strips(agreed: u32) -> u32 {
     let b = gives(
         a,
         402,
-        &[0, 0, 0, 0],
+        b"\x00\x00\x00\x00",
         b"marks 0\nfull\nslide fits\nbest 0 of 0\nout none\n",
     );
     let c = gives(
         b,
         403,
-        &[0, 4, 0, 0, 2, 10, 2, 10, 2, 10, 2, 10],
+        b"\x00\x04\x00\x00\x02\x0a\x02\x0a\x02\x0a\x02\x0a",
         b"marks 4\nfull 2 3 1 4\nslide fits\nbest 4 of 4\nout none\n",
     );
     gives(
         c,
         404,
-        &[
-            0,
-            5,
-            0,
-            0,
-            2,
-            10,
-            6,
-            10,
-            0,
-            9,
-            6,
-            10,
-            0,
-            9,
-            6,
-            10,
-            0,
-            9,
-            6,
-            10,
-            0,
-            9,
-        ],
+        b"\x00\x05\x00\x00\x02\x0a\x06\x0a\x00\x09\x06\x0a\x00\x09\x06\x0a\x00\x09\x06\x0a\x00\x09",
         b"marks 5\nfull none\nslide none\nbest 36 of 37\nout 1\n",
     )
 }
 
 // Refused jobs, an empty input, and 30,000 bytes of input.
 fn refused(agreed: u32) -> u32 {
-    let a = gives(agreed, 411, &[0, 0, 0, 1], b"refused 4\n");
-    let b = gives(a, 412, &[0, 1, 0, 0, 2, 8], b"refused 3\n");
+    let a = gives(agreed, 411, b"\x00\x00\x00\x01", b"refused 4\n");
+    let b = gives(a, 412, b"\x00\x01\x00\x00\x02\x08", b"refused 3\n");
     let c = gives(b, 413, &[0; 0], b"refused 1\n");
     gives(c, 414, &[0; 30000], b"refused 5\n")
 }
@@ -143,9 +120,9 @@ fn many(agreed: u32) -> u32 {
 
 // An output of the text's length will do, and one byte less is refused with 9.
 fn lent(agreed: u32) -> u32 {
-    let exact = listing::listing(&[0, 0, 0, 1], &mut [0; 10]);
+    let exact = listing::listing(b"\x00\x00\x00\x01", &mut [0; 10]);
     let a = tally::same_byte(agreed, 431, exact.number, 0);
-    let short = listing::listing(&[0, 0, 0, 1], &mut [0; 9]);
+    let short = listing::listing(b"\x00\x00\x00\x01", &mut [0; 9]);
     let b = tally::same_byte(a, 432, short.number, 9);
     tally::same_count(b, 432, short.length, 0)
 }

@@ -1,4 +1,5 @@
-// The number that each pass gives for three lists, with answer lists for 4,001 marks and a work area that is long enough.
+// What each pass gives for three lists, with answer lists for 4,001 marks and a work area that is long enough.
+use best::answer::Best;
 
 pub fn full_number(places: &[i16], lengths: &[u8], weights: &[u16]) -> u8 {
     let mut positions = [0u8; 4001];
@@ -13,17 +14,16 @@ pub fn slide_number(places: &[i16], lengths: &[u8], weights: &[u16]) -> u8 {
     slide::slide(places, lengths, weights, &mut sides, &mut edges, &mut work)
 }
 
-pub fn best_number(places: &[i16], lengths: &[u8], weights: &[u16]) -> u8 {
+pub fn best_answer(places: &[i16], lengths: &[u8], weights: &[u16]) -> Best {
     let mut positions = [0u8; 4001];
     let mut left_out = [0u16; 4001];
     let mut work = [0u32; 15000];
-    let got = best::best(
+    best::best(
         places,
         lengths,
         weights,
         &mut positions,
         &mut left_out,
         &mut work,
-    );
-    got.number
+    )
 }

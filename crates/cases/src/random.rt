@@ -9,7 +9,7 @@ use crate::tally;
 use strip::Draw;
 
 // What a strip shows of the model's pass.
-fn compared(
+fn shown_by(
     model: u32,
     n: usize,
     dots: &[u8; 8],
@@ -28,6 +28,13 @@ fn compared(
     random_slide::compared(n, dots, places, lengths, weights)
 }
 
+// The lines of a group: how many strips agree, and in how many every mark has a label.
+fn print_random(group: &[u8], agreed: u32, whole: u32) {
+    tally::print_group(group, agreed);
+    tally::print_number(b"  every mark labelled in ", whole as u64);
+    tally::print(b"\n");
+}
+
 // The line for a strip on which a pass of this group disagrees: place, length and weight of each mark.
 fn print_strip(group: &[u8], n: usize, dots: &[u8; 8], lengths: &[u8; 8], weights: &[u16; 8]) {
     tally::print(group);
@@ -36,11 +43,23 @@ fn print_strip(group: &[u8], n: usize, dots: &[u8; 8], lengths: &[u8; 8], weight
     tally::print(b"\n");
 }
 
-// The lines of a group: how many strips agree, and in how many every mark has a label.
-fn print_random(group: &[u8], agreed: u32, whole: u32) {
-    tally::print_group(group, agreed);
-    tally::print_number(b"  every mark labelled in ", whole as u64);
-    tally::print(b"\n");
+// One strip.
+fn compared(
+    group: &[u8],
+    model: u32,
+    n: usize,
+    dots: &[u8; 8],
+    places: &[i16; 8],
+    lengths: &[u8; 8],
+    weights: &[u16; 8],
+) -> u8
+    requires { ⌜ n ≤ 8 ⌝ }
+{
+    let shown = shown_by(model, n, dots, places, lengths, weights);
+    if shown == tally::DISAGREES {
+        print_strip(group, n, dots, lengths, weights);
+    }
+    shown
 }
 
 // How many strips a group has.
@@ -67,10 +86,7 @@ pub fn random(group: &[u8], model: u32, seed: u64, draw: Draw) {
             &mut lengths,
             &mut weights,
         );
-        let shown = compared(model, n, &dots, &places, &lengths, &weights);
-        if shown == tally::DISAGREES {
-            print_strip(group, n, &dots, &lengths, &weights);
-        }
+        let shown = compared(group, model, n, &dots, &places, &lengths, &weights);
         agreed = tally::counted(agreed, shown != tally::DISAGREES);
         whole = tally::counted(whole, shown == tally::AGREES_WHOLE);
         i += 1;

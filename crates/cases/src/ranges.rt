@@ -6,6 +6,11 @@ use crate::passes;
 use crate::strip;
 use crate::tally;
 
+fn best_number(places: &[i16], lengths: &[u8], weights: &[u16]) -> u8 {
+    let got = passes::best_answer(places, lengths, weights);
+    got.number
+}
+
 fn writer_number(places: &[i16], lengths: &[u8], weights: &[u16]) -> u8 {
     let mut job = [0u8; 30000];
     let got = job::writer::write(places, lengths, weights, &mut job);
@@ -34,12 +39,7 @@ fn all_give(
         passes::slide_number(places, lengths, weights),
         small,
     );
-    let c = tally::same_byte(
-        b,
-        case,
-        passes::best_number(places, lengths, weights),
-        small,
-    );
+    let c = tally::same_byte(b, case, best_number(places, lengths, weights), small);
     tally::same_byte(c, case, writer_number(places, lengths, weights), large)
 }
 

@@ -48,17 +48,7 @@ fn best_gives(agreed: u32, strip: u32, places: &[i16], sum: u32, count: usize) -
     let n = places.len();
     let lengths = [10u8; 5];
     let weights = [1u16; 5];
-    let mut positions = [77u8; 8];
-    let mut left_out = [777u16; 8];
-    let mut work = [0u32; 15000];
-    let got = best::best(
-        places,
-        &lengths[..n],
-        &weights[..n],
-        &mut positions,
-        &mut left_out,
-        &mut work,
-    );
+    let got = passes::best_answer(places, &lengths[..n], &weights[..n]);
     let first = tally::same_byte(agreed, strip, got.number, 0);
     let second = tally::same_number(first, strip, got.sum, sum);
     tally::same_count(second, strip, got.count, count)

@@ -6,26 +6,35 @@ use native.Mathlib.Omega.{arith}
 use Rattle.cases.proofs.lent.best_gives.Statement.{statement}
 use Rattle.cases.proofs.lent.best_gives.Tie as tie
 
+slice-aggregate-best : tie.Need-slice-aggregate-best
+slice-aggregate-best c = search needs
+
+slice-aggregate-best-2 : tie.Need-slice-aggregate-best-2
+slice-aggregate-best-2 c = search needs
+
+slice-aggregate-best-3 : tie.Need-slice-aggregate-best-3
+slice-aggregate-best-3 c = search needs
+
 array-borrow-prefix-position-list : tie.Need-array-borrow-prefix-position-list
 array-borrow-prefix-position-list c = search needs
 
-slice-aggregate-best-on-three : tie.Need-slice-aggregate-best-on-three
-slice-aggregate-best-on-three c = sym (length-take-le _ _ (omega arith))
+slice-aggregate-best-4 : tie.Need-slice-aggregate-best-4
+slice-aggregate-best-4 c = sym (length-take-le _ _ (omega arith))
 
 array-borrow-prefix-left-out-list : tie.Need-array-borrow-prefix-left-out-list
 array-borrow-prefix-left-out-list c = search needs
 
-slice-aggregate-best-on-three-2 : tie.Need-slice-aggregate-best-on-three-2
-slice-aggregate-best-on-three-2 c = sym (length-take-le _ _ (omega arith))
+slice-aggregate-best-5 : tie.Need-slice-aggregate-best-5
+slice-aggregate-best-5 c = sym (length-take-le _ _ (omega arith))
 
 array-borrow-prefix-work-area : tie.Need-array-borrow-prefix-work-area
 array-borrow-prefix-work-area c = search needs
 
-slice-aggregate-best-on-three-3 : tie.Need-slice-aggregate-best-on-three-3
-slice-aggregate-best-on-three-3 c = sym (length-take-le _ _ (omega arith))
+slice-aggregate-best-6 : tie.Need-slice-aggregate-best-6
+slice-aggregate-best-6 c = sym (length-take-le _ _ (omega arith))
 
-best-on-three-requires : tie.Need-best-on-three-requires
-best-on-three-requires c κs = search needs
+best-requires : tie.Need-best-requires
+best-requires c κs = search needs
 
 same-byte-requires : tie.Need-same-byte-requires
 same-byte-requires c κs = search needs
@@ -37,12 +46,15 @@ pub best-gives-spec : {M : Type 1} → statement M
 best-gives-spec =
     tie.close
     (tie.spec
+    slice-aggregate-best
+    slice-aggregate-best-2
+    slice-aggregate-best-3
     array-borrow-prefix-position-list
-    slice-aggregate-best-on-three
+    slice-aggregate-best-4
     array-borrow-prefix-left-out-list
-    slice-aggregate-best-on-three-2
+    slice-aggregate-best-5
     array-borrow-prefix-work-area
-    slice-aggregate-best-on-three-3
-    best-on-three-requires
+    slice-aggregate-best-6
+    best-requires
     same-byte-requires
     returns)

@@ -25,9 +25,6 @@ set-marks-requires c κs = search needs
 compared-requires : tie.Need-compared-requires Inv-loop μ-loop
 compared-requires c κs = search needs
 
-print-strip-requires : tie.Need-print-strip-requires Inv-loop μ-loop
-print-strip-requires c κs = search needs
-
 counted-requires : tie.Need-counted-requires Inv-loop μ-loop
 counted-requires c κs = search needs
 
@@ -60,7 +57,6 @@ random-spec =
     count-from-requires
     set-marks-requires
     compared-requires
-    print-strip-requires
     counted-requires
     counted-requires-2
     add-i

@@ -9,26 +9,17 @@ use Rattle.cases.proofs.worked.best_gives.Tie as tie
 array-share-prefix-lengths : tie.Need-array-share-prefix-lengths
 array-share-prefix-lengths c = search needs
 
-slice-aggregate-best : tie.Need-slice-aggregate-best
-slice-aggregate-best c = sym (length-take-le _ _ (omega arith))
+slice-aggregate-best-answer : tie.Need-slice-aggregate-best-answer
+slice-aggregate-best-answer c = sym (length-take-le _ _ (omega arith))
 
 array-share-prefix-weights : tie.Need-array-share-prefix-weights
 array-share-prefix-weights c = search needs
 
-slice-aggregate-best-2 : tie.Need-slice-aggregate-best-2
-slice-aggregate-best-2 c = sym (length-take-le _ _ (omega arith))
+slice-aggregate-best-answer-2 : tie.Need-slice-aggregate-best-answer-2
+slice-aggregate-best-answer-2 c = sym (length-take-le _ _ (omega arith))
 
-slice-aggregate-best-3 : tie.Need-slice-aggregate-best-3
-slice-aggregate-best-3 c = search needs
-
-slice-aggregate-best-4 : tie.Need-slice-aggregate-best-4
-slice-aggregate-best-4 c = search needs
-
-slice-aggregate-best-5 : tie.Need-slice-aggregate-best-5
-slice-aggregate-best-5 c = search needs
-
-best-requires : tie.Need-best-requires
-best-requires c κs = search needs
+best-answer-requires : tie.Need-best-answer-requires
+best-answer-requires c κs = search needs
 
 same-byte-requires : tie.Need-same-byte-requires
 same-byte-requires c κs = search needs
@@ -47,13 +38,10 @@ best-gives-spec =
     tie.close
     (tie.spec
     array-share-prefix-lengths
-    slice-aggregate-best
+    slice-aggregate-best-answer
     array-share-prefix-weights
-    slice-aggregate-best-2
-    slice-aggregate-best-3
-    slice-aggregate-best-4
-    slice-aggregate-best-5
-    best-requires
+    slice-aggregate-best-answer-2
+    best-answer-requires
     same-byte-requires
     same-number-requires
     same-count-requires
