@@ -6,7 +6,6 @@ use crate::random_full;
 use crate::random_slide;
 use crate::strip;
 use crate::tally;
-use strip::Draw;
 
 // What a strip shows of the model's pass.
 fn shown_by(
@@ -65,8 +64,8 @@ fn compared(
 // How many strips a group has.
 const STRIPS: u32 = 3000;
 
-// The strips from a seed on.
-pub fn random(group: &[u8], model: u32, seed: u64, draw: Draw) {
+// The strips from a seed on, with what their marks are drawn from.
+pub fn random(group: &[u8], model: u32, seed: u64, steps: u64, shortest: u8, spread: u64) {
     let mut dots = [0u8; 8];
     let mut places = [0i16; 8];
     let mut lengths = [0u8; 8];
@@ -80,7 +79,9 @@ pub fn random(group: &[u8], model: u32, seed: u64, draw: Draw) {
         let n = strip::count_from(first);
         from = strip::set_marks(
             first,
-            draw,
+            steps,
+            shortest,
+            spread,
             &mut dots,
             &mut places,
             &mut lengths,

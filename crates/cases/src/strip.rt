@@ -38,13 +38,6 @@ fn place_of_dot(dot: u8) -> i16 {
     place_of(dot as u16 + 256)
 }
 
-// What the marks of a strip are drawn from: steps of 1 to `steps` dots, and `lengths` lengths from `shortest` on.
-pub struct Draw {
-    pub steps: u64,
-    pub shortest: u8,
-    pub lengths: u64,
-}
-
 // The number of marks of the strip that follows a seed.
 pub fn count_from(seed: u64) -> usize
     ensures { λ r. ⌜ r ≤ 6 ⌝ }
@@ -57,18 +50,21 @@ fn next_dot(last: u8, seed: u64, steps: u64) -> u8 {
     ((last as u64 + 1 + below(seed, steps)) % 256) as u8
 }
 
-fn length_from(seed: u64, shortest: u8, lengths: u64) -> u8 {
-    ((shortest as u64 + below(seed, lengths)) % 256) as u8
+fn length_from(seed: u64, shortest: u8, spread: u64) -> u8 {
+    ((shortest as u64 + below(seed, spread)) % 256) as u8
 }
 
 fn weight_from(seed: u64) -> u16 {
     ((1 + below(seed, 9)) % 256) as u16
 }
 
-// Puts the marks that follow a seed into the lists. It gives the seed of the next strip.
+// Puts the marks that follow a seed into the lists: steps of 1 to `steps` dots, and one of `spread` lengths from `shortest` on. It
+// gives the seed of the next strip.
 pub fn set_marks(
     seed: u64,
-    draw: Draw,
+    steps: u64,
+    shortest: u8,
+    spread: u64,
     dots: &mut [u8; 8],
     places: &mut [i16; 8],
     lengths: &mut [u8; 8],
@@ -81,10 +77,10 @@ pub fn set_marks(
         let a = next(last);
         let b = next(a);
         last = next(b);
-        dot = next_dot(dot, a, draw.steps);
+        dot = next_dot(dot, a, steps);
         lists::set(dots, i, dot);
         lists::set_place(places, i, place_of_dot(dot));
-        lists::set(lengths, i, length_from(b, draw.shortest, draw.lengths));
+        lists::set(lengths, i, length_from(b, shortest, spread));
         lists::set_number(weights, i, weight_from(last));
         i += 1;
     }

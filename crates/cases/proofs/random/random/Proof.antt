@@ -5,10 +5,10 @@ use Rattle.cases.proofs.random.random.Statement.{statement}
 use Rattle.cases.proofs.random.random.Tie as tie
 
 abbrev Inv-loop : tie.InvT-loop
-Inv-loop group model seed draw dots₀ places₀ lengths₀ weights₀ agreed₀ whole₀ from₀ i₀ dots places lengths weights agreed whole from i = i ≤ 3000
+Inv-loop group model seed steps shortest spread dots₀ places₀ lengths₀ weights₀ agreed₀ whole₀ from₀ i₀ dots places lengths weights agreed whole from i = i ≤ 3000
 
 abbrev μ-loop : tie.MeasureT-loop
-μ-loop group model seed draw dots₀ places₀ lengths₀ weights₀ agreed₀ whole₀ from₀ i₀ dots places lengths weights agreed whole from i = 3000 - i
+μ-loop group model seed steps shortest spread dots₀ places₀ lengths₀ weights₀ agreed₀ whole₀ from₀ i₀ dots places lengths weights agreed whole from i = 3000 - i
 
 loop-holds : tie.Need-loop-holds Inv-loop μ-loop
 loop-holds c = search needs

@@ -5,10 +5,10 @@ use Rattle.cases.proofs.strip.set_marks.Statement.{statement}
 use Rattle.cases.proofs.strip.set_marks.Tie as tie
 
 abbrev Inv-loop : tie.InvT-loop
-Inv-loop seed draw dots₀ places₀ lengths₀ weights₀ last₀ dot₀ i₀ dots places lengths weights last dot i = i ≤ 6
+Inv-loop seed steps shortest spread dots₀ places₀ lengths₀ weights₀ last₀ dot₀ i₀ dots places lengths weights last dot i = i ≤ 6
 
 abbrev μ-loop : tie.MeasureT-loop
-μ-loop seed draw dots₀ places₀ lengths₀ weights₀ last₀ dot₀ i₀ dots places lengths weights last dot i = 6 - i
+μ-loop seed steps shortest spread dots₀ places₀ lengths₀ weights₀ last₀ dot₀ i₀ dots places lengths weights last dot i = 6 - i
 
 loop-holds : tie.Need-loop-holds Inv-loop μ-loop
 loop-holds c = search needs
