@@ -6,7 +6,6 @@ use crate::labels;
 use crate::lists;
 use crate::search;
 use crate::tally;
-use search::Search;
 
 // The pass on the first `n` marks.
 fn run_first(n: usize, places: &[i16], lengths: &[u8], weights: &[u16], positions: &mut [u8]) -> u8
@@ -56,12 +55,14 @@ fn is_kept(positions: &[u8; 8]) -> bool {
 }
 
 // Whether the pass gives what the search found.
-fn agrees(n: usize, found: Search, number: u8, positions: &[u8; 8]) -> bool {
-    match found {
-        Search::First(choice) => number == 0 && is_choice(n, choice, positions),
-        Search::Nothing => number == 11 && is_kept(positions),
-        Search::Unfinished => false,
+fn agrees(n: usize, found: u32, number: u8, positions: &[u8; 8]) -> bool {
+    if found == search::UNFINISHED {
+        return false;
     }
+    if found == search::NOTHING {
+        return number == 11 && is_kept(positions);
+    }
+    number == 0 && is_choice(n, found, positions)
 }
 
 // One strip.

@@ -9,7 +9,6 @@ use crate::lists;
 use crate::search;
 use crate::slid;
 use crate::tally;
-use search::Search;
 
 // The pass on the first `n` marks.
 fn run_first(
@@ -64,24 +63,6 @@ fn is_leftmost_placing(n: usize, dots: &[u8; 8], lengths: &[u8; 8], digits: &[u8
     leftmost::are_leftmost(dots, lengths, digits, n)
 }
 
-// Whether the search finds a placing.
-fn is_found(model: u32, dots: &[u8; 8], lengths: &[u8; 8], n: usize) -> bool {
-    match search::first_placing(model, dots, lengths, n) {
-        Search::First(_) => true,
-        Search::Nothing => false,
-        Search::Unfinished => false,
-    }
-}
-
-// Whether the search finds that there is no placing.
-fn is_nothing(model: u32, dots: &[u8; 8], lengths: &[u8; 8], n: usize) -> bool {
-    match search::first_placing(model, dots, lengths, n) {
-        Search::First(_) => false,
-        Search::Nothing => true,
-        Search::Unfinished => false,
-    }
-}
-
 // Whether an answer that the strip fits is right: the searches find a placing too, and the pass's own is one.
 fn agrees_that_it_fits(
     n: usize,
@@ -90,10 +71,10 @@ fn agrees_that_it_fits(
     sides: &[u8; 8],
     edges: &[i16; 8],
 ) -> bool {
-    if !is_found(choices::SLIDE, dots, lengths, n) {
+    if search::UNFINISHED <= search::first_placing(choices::SLIDE, dots, lengths, n) {
         return false;
     }
-    if !is_found(choices::HALVES, dots, lengths, n) {
+    if search::UNFINISHED <= search::first_placing(choices::HALVES, dots, lengths, n) {
         return false;
     }
     let digits = slid::digits_of(dots, lengths, sides, edges);
@@ -108,10 +89,10 @@ fn agrees_that_none_fits(
     sides: &[u8; 8],
     edges: &[i16; 8],
 ) -> bool {
-    if !is_nothing(choices::SLIDE, dots, lengths, n) {
+    if search::first_placing(choices::SLIDE, dots, lengths, n) != search::NOTHING {
         return false;
     }
-    if !is_nothing(choices::HALVES, dots, lengths, n) {
+    if search::first_placing(choices::HALVES, dots, lengths, n) != search::NOTHING {
         return false;
     }
     is_kept_behind(0, sides, edges)
