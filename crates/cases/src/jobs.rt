@@ -1,6 +1,6 @@
 // Job bytes: strip 14, strip 11's job with each of its truncations, and each boundary of the reader and the writer.
+ghost use Prim.Native.Nat.{_≤_};
 use crate::tally;
-use tally::Tally;
 
 // Strip 11.
 pub const STRIP11: [u8; 26] = [
@@ -32,110 +32,108 @@ pub const STRIP11: [u8; 26] = [
     9,
 ];
 
-// What the reader must give for a job and three lists.
+// What the reader must give for a job and lists for so many places, lengths and weights.
 fn lists_give(
-    t: Tally,
+    agreed: u32,
     case: u32,
     job: &[u8],
-    places: &mut [i16],
-    lengths: &mut [u8],
-    weights: &mut [u16],
+    places: usize,
+    lengths: usize,
+    weights: usize,
     number: u8,
     count: usize,
-) -> Tally {
-    let got = job::reader::read(job, places, lengths, weights);
-    let first = tally::same_byte(t, case, got.number, number);
+) -> u32
+    requires { ⌜ (places ≤ 8) × (lengths ≤ 8) × (weights ≤ 8) ⌝ }
+{
+    let mut place_list = [0i16; 8];
+    let mut length_list = [0u8; 8];
+    let mut weight_list = [0u16; 8];
+    let got = job::reader::read(
+        job,
+        &mut place_list[..places],
+        &mut length_list[..lengths],
+        &mut weight_list[..weights],
+    );
+    let first = tally::same_byte(agreed, case, got.number, number);
     tally::same_count(first, case, got.count, count)
 }
 
 // The same with lists for 8 marks.
-fn reads(t: Tally, case: u32, job: &[u8], number: u8, count: usize) -> Tally {
-    let mut places = [0i16; 8];
-    let mut lengths = [0u8; 8];
-    let mut weights = [0u16; 8];
-    lists_give(
-        t,
-        case,
-        job,
-        &mut places,
-        &mut lengths,
-        &mut weights,
-        number,
-        count,
-    )
+fn reads(agreed: u32, case: u32, job: &[u8], number: u8, count: usize) -> u32 {
+    lists_give(agreed, case, job, 8, 8, 8, number, count)
 }
 
-fn refused(t: Tally, case: u32, job: &[u8], number: u8) -> Tally {
-    reads(t, case, job, number, 0)
+fn refused(agreed: u32, case: u32, job: &[u8], number: u8) -> u32 {
+    reads(agreed, case, job, number, 0)
 }
 
-fn strip14(t: Tally) -> Tally {
-    let a = reads(t, 301, &[0, 0, 0, 0], 0, 0);
-    let b = refused(a, 302, &[0, 0, 0, 1], 4);
-    let c = refused(b, 303, &[0, 1, 0, 0, 2, 8], 3);
-    let d = refused(c, 304, &[0, 0, 0, 0, 0], 5);
-    refused(d, 305, &[0, 0, 255, 255], 4)
+fn strip14(agreed: u32) -> u32 {
+    let a = reads(agreed, 301, b"\x00\x00\x00\x00", 0, 0);
+    let b = refused(a, 302, b"\x00\x00\x00\x01", 4);
+    let c = refused(b, 303, b"\x00\x01\x00\x00\x02\x08", 3);
+    let d = refused(c, 304, b"\x00\x00\x00\x00\x00", 5);
+    refused(d, 305, b"\x00\x00\xff\xff", 4)
 }
 
 // The header: count and first place.
-fn headers(t: Tally) -> Tally {
-    let a = refused(t, 311, &[15, 161, 0, 0], 4);
-    let b = refused(a, 312, &[255, 255, 0, 0], 4);
-    let c = reads(b, 313, &[0, 1, 117, 48, 0], 0, 1);
-    let d = refused(c, 314, &[0, 1, 117, 49, 0], 4);
-    let e = reads(d, 315, &[0, 1, 138, 208, 0], 0, 1);
-    let f = refused(e, 316, &[0, 1, 138, 207, 0], 4);
-    refused(f, 317, &[15, 160, 0, 0], 9)
+fn headers(agreed: u32) -> u32 {
+    let a = refused(agreed, 311, b"\x0f\xa1\x00\x00", 4);
+    let b = refused(a, 312, b"\xff\xff\x00\x00", 4);
+    let c = reads(b, 313, b"\x00\x01\x75\x30\x00", 0, 1);
+    let d = refused(c, 314, b"\x00\x01\x75\x31\x00", 4);
+    let e = reads(d, 315, b"\x00\x01\x8a\xd0\x00", 0, 1);
+    let f = refused(e, 316, b"\x00\x01\x8a\xcf\x00", 4);
+    refused(f, 317, b"\x0f\xa0\x00\x00", 9)
 }
 
 // The bit map.
-fn maps(t: Tally) -> Tally {
-    let a = refused(t, 321, &[0, 1, 0, 0, 8], 2);
-    let b = refused(a, 322, &[0, 1, 0, 0, 128], 2);
-    let c = refused(b, 323, &[0, 1, 0, 0, 1, 0, 2], 2);
-    let d = refused(c, 324, &[0, 2, 0, 0, 0, 16], 2);
-    let e = refused(d, 325, &[0, 2, 0, 0, 0], 1);
-    refused(e, 326, &[0, 1, 0, 0, 255], 2)
+fn maps(agreed: u32) -> u32 {
+    let a = refused(agreed, 321, b"\x00\x01\x00\x00\x08", 2);
+    let b = refused(a, 322, b"\x00\x01\x00\x00\x80", 2);
+    let c = refused(b, 323, b"\x00\x01\x00\x00\x01\x00\x02", 2);
+    let d = refused(c, 324, b"\x00\x02\x00\x00\x00\x10", 2);
+    let e = refused(d, 325, b"\x00\x02\x00\x00\x00", 1);
+    refused(e, 326, b"\x00\x01\x00\x00\xff", 2)
 }
 
 // The step, and the place that it leads to.
-fn steps(t: Tally) -> Tally {
-    let a = refused(t, 331, &[0, 2, 0, 0, 0, 1, 0, 0], 4);
-    let b = refused(a, 332, &[0, 2, 0, 0, 0, 1, 0, 1], 3);
-    let c = reads(b, 333, &[0, 2, 0, 0, 0, 1, 0, 2], 0, 2);
-    let d = reads(c, 334, &[0, 2, 138, 208, 0, 1, 234, 96], 0, 2);
-    let e = refused(d, 335, &[0, 2, 138, 208, 0, 1, 234, 97], 4);
-    let f = refused(e, 336, &[0, 2, 138, 209, 0, 1, 234, 96], 4);
-    let g = refused(f, 337, &[0, 2, 117, 48, 0, 0], 4);
-    refused(g, 338, &[0, 2, 0, 0, 0, 1, 0], 1)
+fn steps(agreed: u32) -> u32 {
+    let a = refused(agreed, 331, b"\x00\x02\x00\x00\x00\x01\x00\x00", 4);
+    let b = refused(a, 332, b"\x00\x02\x00\x00\x00\x01\x00\x01", 3);
+    let c = reads(b, 333, b"\x00\x02\x00\x00\x00\x01\x00\x02", 0, 2);
+    let d = reads(c, 334, b"\x00\x02\x8a\xd0\x00\x01\xea\x60", 0, 2);
+    let e = refused(d, 335, b"\x00\x02\x8a\xd0\x00\x01\xea\x61", 4);
+    let f = refused(e, 336, b"\x00\x02\x8a\xd1\x00\x01\xea\x60", 4);
+    let g = refused(f, 337, b"\x00\x02\x75\x30\x00\x00", 4);
+    refused(g, 338, b"\x00\x02\x00\x00\x00\x01\x00", 1)
 }
 
-fn lengths(t: Tally) -> Tally {
-    let a = refused(t, 341, &[0, 1, 0, 0, 2, 0], 4);
-    let b = reads(a, 342, &[0, 1, 0, 0, 2, 1], 0, 1);
-    let c = reads(b, 343, &[0, 1, 0, 0, 2, 240], 0, 1);
-    let d = refused(c, 344, &[0, 1, 0, 0, 2, 241], 4);
-    refused(d, 345, &[0, 1, 0, 0, 2], 1)
+fn lengths(agreed: u32) -> u32 {
+    let a = refused(agreed, 341, b"\x00\x01\x00\x00\x02\x00", 4);
+    let b = reads(a, 342, b"\x00\x01\x00\x00\x02\x01", 0, 1);
+    let c = reads(b, 343, b"\x00\x01\x00\x00\x02\xf0", 0, 1);
+    let d = refused(c, 344, b"\x00\x01\x00\x00\x02\xf1", 4);
+    refused(d, 345, b"\x00\x01\x00\x00\x02", 1)
 }
 
-fn weights(t: Tally) -> Tally {
-    let a = refused(t, 351, &[0, 1, 0, 0, 4, 0, 0], 4);
-    let b = refused(a, 352, &[0, 1, 0, 0, 4, 0, 1], 3);
-    let c = reads(b, 353, &[0, 1, 0, 0, 4, 3, 232], 0, 1);
-    let d = refused(c, 354, &[0, 1, 0, 0, 4, 3, 233], 4);
-    refused(d, 355, &[0, 1, 0, 0, 4, 3], 1)
+fn weights(agreed: u32) -> u32 {
+    let a = refused(agreed, 351, b"\x00\x01\x00\x00\x04\x00\x00", 4);
+    let b = refused(a, 352, b"\x00\x01\x00\x00\x04\x00\x01", 3);
+    let c = reads(b, 353, b"\x00\x01\x00\x00\x04\x03\xe8", 0, 1);
+    let d = refused(c, 354, b"\x00\x01\x00\x00\x04\x03\xe9", 4);
+    refused(d, 355, b"\x00\x01\x00\x00\x04\x03", 1)
 }
 
 // The first `k` bytes of a job, which must be refused with 1.
-fn truncated(t: Tally, job: &[u8], k: usize) -> Tally {
+fn truncated(agreed: u32, job: &[u8], k: usize) -> u32 {
     if job.len() < k {
-        return tally::holds(t, 361, false);
+        return tally::holds(agreed, 361, false);
     }
-    refused(t, 361, &job[..k], 1)
+    refused(agreed, 361, &job[..k], 1)
 }
 
-fn truncations(t: Tally, job: &[u8]) -> Tally {
-    let mut all = t;
+fn truncations(agreed: u32, job: &[u8]) -> u32 {
+    let mut all = agreed;
     let mut k = 0;
     while k < job.len() {
         all = truncated(all, job, k);
@@ -145,108 +143,36 @@ fn truncations(t: Tally, job: &[u8]) -> Tally {
 }
 
 // Strip 11 whole, with one byte too many, and with a list that is one short.
-fn strip11(t: Tally) -> Tally {
-    let a = truncations(t, &STRIP11);
+fn strip11(agreed: u32) -> u32 {
+    let a = truncations(agreed, &STRIP11);
     let b = reads(a, 362, &STRIP11, 0, 5);
     refused(
         b,
         363,
-        &[
-            0,
-            5,
-            0,
-            0,
-            6,
-            10,
-            0,
-            9,
-            6,
-            10,
-            0,
-            2,
-            6,
-            10,
-            0,
-            9,
-            6,
-            10,
-            0,
-            9,
-            7,
-            0,
-            7,
-            10,
-            0,
-            9,
-            0,
-        ],
+        b"\x00\x05\x00\x00\x06\x0a\x00\x09\x06\x0a\x00\x02\x06\x0a\x00\x09\x06\x0a\x00\x09\x07\x00\x07\x0a\x00\x09\x00",
         5,
     )
 }
 
-fn short_lists(t: Tally) -> Tally {
-    let a = lists_give(
-        t,
-        371,
-        &STRIP11,
-        &mut [0; 5],
-        &mut [0; 5],
-        &mut [0; 5],
-        0,
-        5,
-    );
-    let b = lists_give(
-        a,
-        372,
-        &STRIP11,
-        &mut [0; 4],
-        &mut [0; 5],
-        &mut [0; 5],
-        9,
-        0,
-    );
-    let c = lists_give(
-        b,
-        373,
-        &STRIP11,
-        &mut [0; 5],
-        &mut [0; 4],
-        &mut [0; 5],
-        9,
-        0,
-    );
-    let d = lists_give(
-        c,
-        374,
-        &STRIP11,
-        &mut [0; 5],
-        &mut [0; 5],
-        &mut [0; 4],
-        9,
-        0,
-    );
-    lists_give(
-        d,
-        375,
-        &[0, 1, 0, 0, 8],
-        &mut [0; 0],
-        &mut [0; 1],
-        &mut [0; 1],
-        9,
-        0,
-    )
+// Lists for the five marks, and one of them one short; too little room comes before what is wrong with a record.
+fn short_lists(agreed: u32) -> u32 {
+    let a = lists_give(agreed, 371, &STRIP11, 5, 5, 5, 0, 5);
+    let b = lists_give(a, 372, &STRIP11, 4, 5, 5, 9, 0);
+    let c = lists_give(b, 373, &STRIP11, 5, 4, 5, 9, 0);
+    let d = lists_give(c, 374, &STRIP11, 5, 5, 4, 9, 0);
+    lists_give(d, 375, b"\x00\x01\x00\x00\x08", 0, 1, 1, 9, 0)
 }
 
 // What the writer must give for strip 11 and this output.
-fn writes(t: Tally, case: u32, job: &mut [u8], number: u8, length: usize) -> Tally {
+fn writes(agreed: u32, case: u32, job: &mut [u8], number: u8, length: usize) -> u32 {
     let got = job::writer::write(&[0, 1, 2, 3, 10], &[10; 5], &[9, 2, 9, 9, 9], job);
-    let first = tally::same_byte(t, case, got.number, number);
+    let first = tally::same_byte(agreed, case, got.number, number);
     tally::same_count(first, case, got.length, length)
 }
 
-fn written(t: Tally) -> Tally {
+fn written(agreed: u32) -> u32 {
     let mut job = [0u8; 26];
-    let a = writes(t, 381, &mut job, 0, 26);
+    let a = writes(agreed, 381, &mut job, 0, 26);
     let b = tally::holds(a, 381, is_strip11(&job));
     let c = writes(b, 382, &mut [0; 25], 9, 0);
     writes(c, 383, &mut [0; 27], 0, 26)
@@ -256,8 +182,8 @@ fn is_strip11(job: &[u8; 26]) -> bool {
     tally::begins_with(job, &STRIP11)
 }
 
-pub fn jobs() -> Tally {
-    let a = strip14(tally::none_yet());
+pub fn jobs() -> u32 {
+    let a = strip14(0);
     let b = weights(lengths(steps(maps(headers(a)))));
     written(short_lists(strip11(b)))
 }

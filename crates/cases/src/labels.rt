@@ -1,31 +1,6 @@
-// Choices of labels for a strip of up to 6 marks, and whether two of their labels overlap.
-//
-// A choice is a number whose digits, one for each mark and the first mark's highest, say how each mark is labelled. What a
-// digit means depends on the model:
-//
-// - FULL: 0 to 3 for the positions 2, 3, 1, 4, so that the first choice is the one that document 01 ranks first;
-// - BEST: 0 for no label, or the position 1 to 4;
-// - SLIDE: the side, 0 above and 1 below, plus twice the number of dots by which the label lies right of its leftmost edge;
-// - HALVES: the same in half dots.
-
-ghost use Prim.Native.Nat.{_≤_, _<_};
-
-pub const FULL: u32 = 0;
-
-pub const BEST: u32 = 1;
-
-pub const SLIDE: u32 = 2;
-
-pub const HALVES: u32 = 3;
-
-// The powers of the number of values that a digit has: 4, 5, and for labels of at most 7 dots 2 * (7 + 1) and 2 * (14 + 1).
-const FOURS: [u32; 7] = [1, 4, 16, 64, 256, 1024, 4096];
-
-const FIVES: [u32; 7] = [1, 5, 25, 125, 625, 3125, 15625];
-
-const SIXTEENS: [u32; 7] = [1, 16, 256, 4096, 65536, 1048576, 16777216];
-
-const THIRTIES: [u32; 7] = [1, 30, 900, 27000, 810000, 24300000, 729000000];
+// The labels of a choice, and whether two of them overlap.
+use crate::choices;
+use crate::lists;
 
 // A label as an open span on one side, or none. The ends are counted in dots, or in half dots, from 256 dots left of dot 0.
 struct Span {
@@ -34,69 +9,6 @@ struct Span {
     above: bool,
     left: u32,
     right: u32,
-}
-
-pub fn at(a: &[u8; 8], i: usize) -> u8 {
-    if i < 8 { a[i] } else { 0 }
-}
-
-// How many values a digit has.
-fn values(model: u32) -> u32
-    ensures { λ r. ⌜ (0 < r) × (r ≤ 30) ⌝ }
-{
-    if model == FULL {
-        return 4;
-    }
-    if model == BEST {
-        return 5;
-    }
-    if model == SLIDE {
-        return 16;
-    }
-    30
-}
-
-// How many choices there are for `k` marks, at most 6.
-pub fn choices(model: u32, k: usize) -> u32 {
-    if 7 <= k {
-        return 0;
-    }
-    if model == FULL {
-        return FOURS[k];
-    }
-    if model == BEST {
-        return FIVES[k];
-    }
-    if model == SLIDE {
-        return SIXTEENS[k];
-    }
-    THIRTIES[k]
-}
-
-// The digit of mark `i` in a choice for `n` marks, 0 behind the last.
-fn digit(model: u32, n: usize, choice: u32, i: usize) -> u8 {
-    if n <= i {
-        return 0;
-    }
-    let after = choices(model, n - i - 1);
-    if after == 0 {
-        return 0;
-    }
-    (choice / after % values(model) % 256) as u8
-}
-
-// The digits of a choice for `n` marks.
-pub fn digits(model: u32, n: usize, choice: u32) -> [u8; 8] {
-    [
-        digit(model, n, choice, 0),
-        digit(model, n, choice, 1),
-        digit(model, n, choice, 2),
-        digit(model, n, choice, 3),
-        digit(model, n, choice, 4),
-        digit(model, n, choice, 5),
-        0,
-        0,
-    ]
 }
 
 // The position that a digit of the model FULL stands for.
@@ -159,13 +71,13 @@ fn slid_label(dot: u8, length: u8, digit: u8, is_halves: bool) -> Span {
 }
 
 fn label(model: u32, dot: u8, length: u8, digit: u8) -> Span {
-    if model == FULL {
+    if model == choices::FULL {
         return at_position(dot, length, ranked(digit));
     }
-    if model == BEST {
+    if model == choices::BEST {
         return at_position(dot, length, digit);
     }
-    slid_label(dot, length, digit, model == HALVES)
+    slid_label(dot, length, digit, model == choices::HALVES)
 }
 
 // Whether two labels overlap: both are there, on one side, and their spans share more than an end point.
@@ -187,9 +99,9 @@ fn is_wrong(
 ) -> bool {
     let b = label(
         model,
-        at(dots, later),
-        at(lengths, later),
-        at(digits, later),
+        lists::at(dots, later),
+        lists::at(lengths, later),
+        lists::at(digits, later),
     );
     if !b.valid {
         return true;
@@ -199,9 +111,9 @@ fn is_wrong(
     }
     let a = label(
         model,
-        at(dots, earlier),
-        at(lengths, earlier),
-        at(digits, earlier),
+        lists::at(dots, earlier),
+        lists::at(lengths, earlier),
+        lists::at(digits, earlier),
     );
     overlap(a, b)
 }
@@ -221,23 +133,4 @@ pub fn clash(model: u32, dots: &[u8; 8], lengths: &[u8; 8], n: usize, digits: &[
         pair += 1;
     }
     n
-}
-
-fn wide(x: u8) -> u64
-    ensures { λ r. ⌜ r < 256 ⌝ }
-{
-    x as u64
-}
-
-// The list as one number, so that two lists are compared in one test.
-pub fn packed(a: &[u8; 8]) -> u64 {
-    let low = wide(at(a, 0))
-        + 256 * wide(at(a, 1))
-        + 65536 * wide(at(a, 2))
-        + 16777216 * wide(at(a, 3));
-    let high = wide(at(a, 4))
-        + 256 * wide(at(a, 5))
-        + 65536 * wide(at(a, 6))
-        + 16777216 * wide(at(a, 7));
-    low + 4294967296 * high
 }

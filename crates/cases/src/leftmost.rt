@@ -1,5 +1,5 @@
 // Whether the labels of a choice of the model SLIDE are as far left as they go, given their sides and taking marks from left to right.
-use crate::labels;
+use crate::lists;
 
 fn larger(a: u32, b: u32) -> u32 {
     if a < b { b } else { a }
@@ -19,11 +19,11 @@ fn reach_after(
     digits: &[u8; 8],
     i: usize,
 ) -> u32 {
-    if labels::at(digits, i) % 2 != side {
+    if lists::at(digits, i) % 2 != side {
         return reach;
     }
-    let length = labels::at(lengths, i);
-    leftmost(reach, labels::at(dots, i), length) % 65536 + length as u32
+    let length = lists::at(lengths, i);
+    leftmost(reach, lists::at(dots, i), length) % 65536 + length as u32
 }
 
 // The reach of a side before mark `k`.
@@ -39,9 +39,9 @@ fn reach_before(side: u8, dots: &[u8; 8], lengths: &[u8; 8], digits: &[u8; 8], k
 
 // Whether the label of mark `i` is as far left as it goes.
 fn is_leftmost(dots: &[u8; 8], lengths: &[u8; 8], digits: &[u8; 8], i: usize) -> bool {
-    let digit = labels::at(digits, i);
-    let dot = labels::at(dots, i);
-    let length = labels::at(lengths, i);
+    let digit = lists::at(digits, i);
+    let dot = lists::at(dots, i);
+    let length = lists::at(lengths, i);
     let reach = reach_before(digit % 2, dots, lengths, digits, i);
     leftmost(reach, dot, length) == dot as u32 + 256 + digit as u32 / 2 - length as u32
 }

@@ -1,65 +1,91 @@
 // Answer lists and work areas that are too short by one, or just long enough, for a strip of three marks.
+ghost use Prim.Native.Nat.{_≤_};
 use crate::tally;
-use tally::Tally;
 
 const PLACES: [i16; 3] = [0, 1, 2];
 
-const LENGTHS: [u8; 3] = [10, 10, 10];
-
-const WEIGHTS: [u16; 3] = [1, 1, 1];
-
-fn full_gives(t: Tally, case: u32, positions: &mut [u8], work: &mut [i16], number: u8) -> Tally {
-    let got = full::full(&PLACES, &LENGTHS, &WEIGHTS, positions, work);
-    tally::same_byte(t, case, got, number)
+// The full pass must give this number with a position list and a work area of these lengths.
+fn full_gives(agreed: u32, case: u32, positions: usize, work: usize, number: u8) -> u32
+    requires { ⌜ (positions ≤ 3) × (work ≤ 20000) ⌝ }
+{
+    let mut position_list = [0u8; 3];
+    let mut work_area = [0i16; 20000];
+    let got = full::full(
+        &PLACES,
+        &[10; 3],
+        &[1; 3],
+        &mut position_list[..positions],
+        &mut work_area[..work],
+    );
+    tally::same_byte(agreed, case, got, number)
 }
 
-fn slide_gives(
-    t: Tally,
-    case: u32,
-    sides: &mut [u8],
-    edges: &mut [i16],
-    work: &mut [u16],
-    number: u8,
-) -> Tally {
-    let got = slide::slide(&PLACES, &LENGTHS, &WEIGHTS, sides, edges, work);
-    tally::same_byte(t, case, got, number)
+// The slide pass must give this number with a side list, a left edge list and a work area of these lengths.
+fn slide_gives(agreed: u32, case: u32, sides: usize, edges: usize, work: usize, number: u8) -> u32
+    requires { ⌜ (sides ≤ 3) × (edges ≤ 3) × (work ≤ 30000) ⌝ }
+{
+    let mut side_list = [0u8; 3];
+    let mut edge_list = [0i16; 3];
+    let mut work_area = [0u16; 30000];
+    let got = slide::slide(
+        &PLACES,
+        &[10; 3],
+        &[1; 3],
+        &mut side_list[..sides],
+        &mut edge_list[..edges],
+        &mut work_area[..work],
+    );
+    tally::same_byte(agreed, case, got, number)
 }
 
+// The best pass must give this number with a position list, a left-out list and a work area of these lengths.
 fn best_gives(
-    t: Tally,
+    agreed: u32,
     case: u32,
-    positions: &mut [u8],
-    left_out: &mut [u16],
-    work: &mut [u32],
+    positions: usize,
+    left_out: usize,
+    work: usize,
     number: u8,
-) -> Tally {
-    let got = best::best(&PLACES, &LENGTHS, &WEIGHTS, positions, left_out, work);
-    tally::same_byte(t, case, got.number, number)
+) -> u32
+    requires { ⌜ (positions ≤ 3) × («left_out» ≤ 3) × (work ≤ 15000) ⌝ }
+{
+    let mut position_list = [0u8; 3];
+    let mut left_out_list = [0u16; 3];
+    let mut work_area = [0u32; 15000];
+    let got = best::best(
+        &PLACES,
+        &[10; 3],
+        &[1; 3],
+        &mut position_list[..positions],
+        &mut left_out_list[..left_out],
+        &mut work_area[..work],
+    );
+    tally::same_byte(agreed, case, got.number, number)
 }
 
-fn full_lent(t: Tally) -> Tally {
-    let a = full_gives(t, 201, &mut [0; 3], &mut [0; 20000], 0);
-    let b = full_gives(a, 202, &mut [0; 2], &mut [0; 20000], 9);
-    let c = full_gives(b, 203, &mut [0; 3], &mut [0; 19999], 10);
-    full_gives(c, 204, &mut [0; 2], &mut [0; 19999], 9)
+fn full_lent(agreed: u32) -> u32 {
+    let a = full_gives(agreed, 201, 3, 20000, 0);
+    let b = full_gives(a, 202, 2, 20000, 9);
+    let c = full_gives(b, 203, 3, 19999, 10);
+    full_gives(c, 204, 2, 19999, 9)
 }
 
-fn slide_lent(t: Tally) -> Tally {
-    let a = slide_gives(t, 211, &mut [0; 3], &mut [0; 3], &mut [0; 30000], 0);
-    let b = slide_gives(a, 212, &mut [0; 2], &mut [0; 3], &mut [0; 30000], 9);
-    let c = slide_gives(b, 213, &mut [0; 3], &mut [0; 2], &mut [0; 30000], 9);
-    let d = slide_gives(c, 214, &mut [0; 3], &mut [0; 3], &mut [0; 29999], 10);
-    slide_gives(d, 215, &mut [0; 3], &mut [0; 2], &mut [0; 29999], 9)
+fn slide_lent(agreed: u32) -> u32 {
+    let a = slide_gives(agreed, 211, 3, 3, 30000, 0);
+    let b = slide_gives(a, 212, 2, 3, 30000, 9);
+    let c = slide_gives(b, 213, 3, 2, 30000, 9);
+    let d = slide_gives(c, 214, 3, 3, 29999, 10);
+    slide_gives(d, 215, 3, 2, 29999, 9)
 }
 
-fn best_lent(t: Tally) -> Tally {
-    let a = best_gives(t, 221, &mut [0; 3], &mut [0; 3], &mut [0; 15000], 0);
-    let b = best_gives(a, 222, &mut [0; 2], &mut [0; 3], &mut [0; 15000], 9);
-    let c = best_gives(b, 223, &mut [0; 3], &mut [0; 2], &mut [0; 15000], 9);
-    let d = best_gives(c, 224, &mut [0; 3], &mut [0; 3], &mut [0; 14999], 10);
-    best_gives(d, 225, &mut [0; 2], &mut [0; 3], &mut [0; 14999], 9)
+fn best_lent(agreed: u32) -> u32 {
+    let a = best_gives(agreed, 221, 3, 3, 15000, 0);
+    let b = best_gives(a, 222, 2, 3, 15000, 9);
+    let c = best_gives(b, 223, 3, 2, 15000, 9);
+    let d = best_gives(c, 224, 3, 3, 14999, 10);
+    best_gives(d, 225, 2, 3, 14999, 9)
 }
 
-pub fn lent() -> Tally {
-    best_lent(slide_lent(full_lent(tally::none_yet())))
+pub fn lent() -> u32 {
+    best_lent(slide_lent(full_lent(0)))
 }

@@ -1,13 +1,12 @@
 // The listing's bytes, compared whole: strips 4, 6 and 11, no marks, refused jobs, 60 and 61 marks, and 30,000 bytes of input.
 use crate::jobs;
 use crate::tally;
-use tally::Tally;
 
 // The listing of a job must be these bytes.
-fn gives(t: Tally, case: u32, job: &[u8], wanted: &[u8]) -> Tally {
+fn gives(agreed: u32, case: u32, job: &[u8], wanted: &[u8]) -> u32 {
     let mut text = [0u8; 30000];
     let got = listing::listing(job, &mut text);
-    let first = tally::same_byte(t, case, got.number, 0);
+    let first = tally::same_byte(agreed, case, got.number, 0);
     let second = tally::same_count(first, case, got.length, wanted.len());
     tally::holds(second, case, text_begins(&text, wanted))
 }
@@ -17,9 +16,9 @@ fn text_begins(text: &[u8; 30000], wanted: &[u8]) -> bool {
 }
 
 // Strips of document 01.
-fn strips(t: Tally) -> Tally {
+fn strips(agreed: u32) -> u32 {
     let a = gives(
-        t,
+        agreed,
         401,
         &jobs::STRIP11,
         b"marks 5\nfull none\nslide fits\nbest 36 of 38\nout 2\n",
@@ -27,50 +26,27 @@ fn strips(t: Tally) -> Tally {
     let b = gives(
         a,
         402,
-        &[0, 0, 0, 0],
+        b"\x00\x00\x00\x00",
         b"marks 0\nfull\nslide fits\nbest 0 of 0\nout none\n",
     );
     let c = gives(
         b,
         403,
-        &[0, 4, 0, 0, 2, 10, 2, 10, 2, 10, 2, 10],
+        b"\x00\x04\x00\x00\x02\x0a\x02\x0a\x02\x0a\x02\x0a",
         b"marks 4\nfull 2 3 1 4\nslide fits\nbest 4 of 4\nout none\n",
     );
     gives(
         c,
         404,
-        &[
-            0,
-            5,
-            0,
-            0,
-            2,
-            10,
-            6,
-            10,
-            0,
-            9,
-            6,
-            10,
-            0,
-            9,
-            6,
-            10,
-            0,
-            9,
-            6,
-            10,
-            0,
-            9,
-        ],
+        b"\x00\x05\x00\x00\x02\x0a\x06\x0a\x00\x09\x06\x0a\x00\x09\x06\x0a\x00\x09\x06\x0a\x00\x09",
         b"marks 5\nfull none\nslide none\nbest 36 of 37\nout 1\n",
     )
 }
 
 // Refused jobs, an empty input, and 30,000 bytes of input.
-fn refused(t: Tally) -> Tally {
-    let a = gives(t, 411, &[0, 0, 0, 1], b"refused 4\n");
-    let b = gives(a, 412, &[0, 1, 0, 0, 2, 8], b"refused 3\n");
+fn refused(agreed: u32) -> u32 {
+    let a = gives(agreed, 411, b"\x00\x00\x00\x01", b"refused 4\n");
+    let b = gives(a, 412, b"\x00\x01\x00\x00\x02\x08", b"refused 3\n");
     let c = gives(b, 413, &[0; 0], b"refused 1\n");
     gives(c, 414, &[0; 30000], b"refused 5\n")
 }
@@ -110,23 +86,23 @@ fn set_spaced(job: &mut [u8; 185], marks: u8) {
 }
 
 // The listing of the job in the first `n` bytes.
-fn first_gives(t: Tally, case: u32, job: &[u8], n: usize, wanted: &[u8]) -> Tally {
+fn first_gives(agreed: u32, case: u32, job: &[u8], n: usize, wanted: &[u8]) -> u32 {
     if job.len() < n {
-        return tally::holds(t, case, false);
+        return tally::holds(agreed, case, false);
     }
-    gives(t, case, &job[..n], wanted)
+    gives(agreed, case, &job[..n], wanted)
 }
 
-fn spaced_gives(t: Tally, case: u32, job: &[u8; 185], n: usize, wanted: &[u8]) -> Tally {
-    first_gives(t, case, job, n, wanted)
+fn spaced_gives(agreed: u32, case: u32, job: &[u8; 185], n: usize, wanted: &[u8]) -> u32 {
+    first_gives(agreed, case, job, n, wanted)
 }
 
 // 60 marks are the most that slide and best take.
-fn many(t: Tally) -> Tally {
+fn many(agreed: u32) -> u32 {
     let mut job = [0u8; 185];
     set_spaced(&mut job, 60);
     let a = spaced_gives(
-        t,
+        agreed,
         421,
         &job,
         182,
@@ -143,14 +119,14 @@ fn many(t: Tally) -> Tally {
 }
 
 // An output of the text's length will do, and one byte less is refused with 9.
-fn lent(t: Tally) -> Tally {
-    let exact = listing::listing(&[0, 0, 0, 1], &mut [0; 10]);
-    let a = tally::same_byte(t, 431, exact.number, 0);
-    let short = listing::listing(&[0, 0, 0, 1], &mut [0; 9]);
+fn lent(agreed: u32) -> u32 {
+    let exact = listing::listing(b"\x00\x00\x00\x01", &mut [0; 10]);
+    let a = tally::same_byte(agreed, 431, exact.number, 0);
+    let short = listing::listing(b"\x00\x00\x00\x01", &mut [0; 9]);
     let b = tally::same_byte(a, 432, short.number, 9);
     tally::same_count(b, 432, short.length, 0)
 }
 
-pub fn listings() -> Tally {
-    lent(many(refused(strips(tally::none_yet()))))
+pub fn listings() -> u32 {
+    lent(many(refused(strips(0))))
 }

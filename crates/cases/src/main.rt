@@ -1,48 +1,47 @@
 // A test program: document 01's strips, each boundary, and random strips against a plain search through all choices. It prints a
 // line for each group, and a line for each case or strip that disagrees.
+mod choices;
 mod jobs;
 mod labels;
+mod left_out;
 mod leftmost;
 mod lent;
 mod listings;
+mod lists;
+mod passes;
+mod random;
 mod random_best;
 mod random_full;
 mod random_slide;
 mod ranges;
 mod search;
+mod slid;
 mod strip;
+mod sums;
 mod tally;
 mod worked;
 
-use strip::Draw;
-
 // Strips of up to 6 marks, some one in six of which cannot have a label for every mark.
 fn random_corners() {
-    let draw = Draw {
-        steps: 3,
-        shortest: 1,
-        lengths: 24,
-    };
-    tally::print_random(b"full random", random_full::random(3000, 1, draw));
-    tally::print_random(b"best random", random_best::random(3000, 2, draw));
+    let steps = 3;
+    let shortest = 1;
+    let spread = 24;
+    random::random(b"full random", choices::FULL, 1, steps, shortest, spread);
+    random::random(b"best random", choices::BEST, 2, steps, shortest, spread);
 }
 
 // Labels of up to 4 dots, with which 6 marks always fit, and of 4 to 7.
 fn random_slides() {
-    let short = Draw {
-        steps: 2,
-        shortest: 1,
-        lengths: 4,
-    };
-    let long = Draw {
-        steps: 2,
-        shortest: 4,
-        lengths: 4,
-    };
-    tally::print_random(b"slide random", random_slide::random(3000, 3, short));
-    tally::print_random(
+    let steps = 2;
+    let spread = 4;
+    random::random(b"slide random", choices::SLIDE, 3, steps, 1, spread);
+    random::random(
         b"slide random, long labels",
-        random_slide::random(3000, 4, long),
+        choices::SLIDE,
+        4,
+        steps,
+        4,
+        spread,
     );
 }
 

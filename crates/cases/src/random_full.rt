@@ -1,62 +1,24 @@
 // The full pass on random strips against the first placing of the plain search: number and positions.
 ghost use Prim.Native.Nat.{_≤_};
+ghost use lib.ListN.{length};
+use crate::choices;
 use crate::labels;
+use crate::lists;
 use crate::search;
-use crate::strip;
 use crate::tally;
-use search::Search;
-use strip::Draw;
-use strip::Strip;
-use tally::Tally;
 
-// What the pass gives.
-struct Given {
-    number: u8,
-    positions: [u8; 8],
-}
-
-// The pass on the first `n` marks; 255 where a list is shorter.
-fn run_first(places: &[i16], lengths: &[u8], weights: &[u16], n: usize) -> Given {
-    let mut positions = [77u8; 8];
+// The pass on the first `n` marks.
+fn run_first(n: usize, places: &[i16], lengths: &[u8], weights: &[u16], positions: &mut [u8]) -> u8
+    requires { ⌜ (n ≤ length (now places)) × (n ≤ length (now lengths)) × (n ≤ length (now weights)) ⌝ }
+{
     let mut work = [0i16; 20000];
-    if places.len() < n {
-        return Given {
-            number: 255,
-            positions,
-        };
-    }
-    if lengths.len() < n {
-        return Given {
-            number: 255,
-            positions,
-        };
-    }
-    if weights.len() < n {
-        return Given {
-            number: 255,
-            positions,
-        };
-    }
-    let number = full::full(
+    full::full(
         &places[..n],
         &lengths[..n],
         &weights[..n],
-        &mut positions,
+        positions,
         &mut work,
-    );
-    Given { number, positions }
-}
-
-// An array lent behind a reference keeps its length, which one copied from a struct does not show.
-fn run_lent(places: &[i16; 8], lengths: &[u8; 8], weights: &[u16; 8], n: usize) -> Given {
-    run_first(places, lengths, weights, n)
-}
-
-fn run(s: Strip) -> Given {
-    let places = s.places;
-    let lengths = s.lengths;
-    let weights = s.weights;
-    run_lent(&places, &lengths, &weights, strip::count_of(s))
+    )
 }
 
 // The element `i` that the position list must have: the position of mark `i`, or behind the last mark what stood there.
@@ -64,7 +26,7 @@ fn wanted_position(n: usize, digits: &[u8; 8], i: usize) -> u8 {
     if n <= i {
         return 77;
     }
-    labels::ranked(labels::at(digits, i))
+    labels::ranked(lists::at(digits, i))
 }
 
 // The position list that the first placing asks for.
@@ -81,46 +43,41 @@ fn wanted(n: usize, digits: &[u8; 8]) -> [u8; 8] {
     ]
 }
 
+// Whether the positions are those of a choice.
+fn is_choice(n: usize, choice: u32, positions: &[u8; 8]) -> bool {
+    let digits = choices::digits(choices::FULL, n, choice);
+    lists::packed(positions) == lists::packed(&wanted(n, &digits))
+}
+
+// Whether the positions are as they were.
+fn is_kept(positions: &[u8; 8]) -> bool {
+    lists::packed(positions) == lists::packed(&[77; 8])
+}
+
 // Whether the pass gives what the search found.
-fn agrees(n: usize, found: Search, given: Given) -> bool {
-    let positions = given.positions;
-    match found {
-        Search::First(choice) => {
-            let digits = labels::digits(labels::FULL, n, choice);
-            given.number == 0 && labels::packed(&positions) == labels::packed(&wanted(n, &digits))
-        }
-        Search::Nothing => {
-            given.number == 11 && labels::packed(&positions) == labels::packed(&[77; 8])
-        }
-        Search::Unfinished => false,
+fn agrees(n: usize, found: u32, number: u8, positions: &[u8; 8]) -> bool {
+    if found == search::UNFINISHED {
+        return false;
     }
+    if found == search::NOTHING {
+        return number == 11 && is_kept(positions);
+    }
+    number == 0 && is_choice(n, found, positions)
 }
 
 // One strip.
-fn compared(t: Tally, s: Strip) -> Tally {
-    let n = strip::count_of(s);
-    let dots = s.dots;
-    let lengths = s.lengths;
-    let found = search::first_placing(labels::FULL, &dots, &lengths, n);
-    let given = run(s);
-    let number = given.number;
-    let agreed = agrees(n, found, given);
-    if !agreed {
-        strip::print_strip(b"full", s);
-    }
-    tally::counted(t, agreed, number == 0)
-}
-
-// So many strips, from a seed on.
-pub fn random(strips: u32, seed: u64, draw: Draw) -> Tally {
-    let mut t = tally::none_yet();
-    let mut from = seed;
-    let mut i = 0;
-    while i < strips {
-        let s = strip::random_strip(from, draw);
-        t = compared(t, s);
-        from = s.seed;
-        i += 1;
-    }
-    t
+pub fn compared(
+    n: usize,
+    dots: &[u8; 8],
+    places: &[i16; 8],
+    lengths: &[u8; 8],
+    weights: &[u16; 8],
+) -> u8
+    requires { ⌜ n ≤ 8 ⌝ }
+{
+    let mut positions = [77u8; 8];
+    let number = run_first(n, places, lengths, weights, &mut positions);
+    let found = search::first_placing(choices::FULL, dots, lengths, n);
+    let agreed = agrees(n, found, number, &positions);
+    tally::outcome(agreed, number == 0)
 }

@@ -1,34 +1,13 @@
 // The ranges of a mark and the numbers of marks, at each boundary: strip 13, for the three passes and the writer.
+ghost use Prim.Native.Nat.{_≤_};
+ghost use lib.ListN.{length};
+ghost use mathlib.Core.Path.{_≡_};
+use crate::passes;
 use crate::strip;
 use crate::tally;
-use tally::Tally;
-
-// The number that the full pass gives.
-fn full_number(places: &[i16], lengths: &[u8], weights: &[u16]) -> u8 {
-    let mut positions = [0u8; 4001];
-    let mut work = [0i16; 20000];
-    full::full(places, lengths, weights, &mut positions, &mut work)
-}
-
-fn slide_number(places: &[i16], lengths: &[u8], weights: &[u16]) -> u8 {
-    let mut sides = [0u8; 4001];
-    let mut edges = [0i16; 4001];
-    let mut work = [0u16; 30000];
-    slide::slide(places, lengths, weights, &mut sides, &mut edges, &mut work)
-}
 
 fn best_number(places: &[i16], lengths: &[u8], weights: &[u16]) -> u8 {
-    let mut positions = [0u8; 4001];
-    let mut left_out = [0u16; 4001];
-    let mut work = [0u32; 15000];
-    let got = best::best(
-        places,
-        lengths,
-        weights,
-        &mut positions,
-        &mut left_out,
-        &mut work,
-    );
+    let got = passes::best_answer(places, lengths, weights);
     got.number
 }
 
@@ -40,35 +19,45 @@ fn writer_number(places: &[i16], lengths: &[u8], weights: &[u16]) -> u8 {
 
 // What the four calls must give for these lists: `small` for slide and best, which take 60 marks, `large` for full and the writer.
 fn all_give(
-    t: Tally,
+    agreed: u32,
     case: u32,
     places: &[i16],
     lengths: &[u8],
     weights: &[u16],
     small: u8,
     large: u8,
-) -> Tally {
-    let a = tally::same_byte(t, case, full_number(places, lengths, weights), large);
-    let b = tally::same_byte(a, case, slide_number(places, lengths, weights), small);
+) -> u32 {
+    let a = tally::same_byte(
+        agreed,
+        case,
+        passes::full_number(places, lengths, weights),
+        large,
+    );
+    let b = tally::same_byte(
+        a,
+        case,
+        passes::slide_number(places, lengths, weights),
+        small,
+    );
     let c = tally::same_byte(b, case, best_number(places, lengths, weights), small);
     tally::same_byte(c, case, writer_number(places, lengths, weights), large)
 }
 
 // One mark.
-fn one(t: Tally, case: u32, place: i16, length: u8, weight: u16, number: u8) -> Tally {
-    all_give(t, case, &[place], &[length], &[weight], number, number)
+fn one(agreed: u32, case: u32, place: i16, length: u8, weight: u16, number: u8) -> u32 {
+    all_give(agreed, case, &[place], &[length], &[weight], number, number)
 }
 
-fn lengths(t: Tally) -> Tally {
-    let a = one(t, 101, 0, 240, 1, 0);
+fn lengths(agreed: u32) -> u32 {
+    let a = one(agreed, 101, 0, 240, 1, 0);
     let b = one(a, 102, 0, 241, 1, 8);
     let c = one(b, 103, 0, 255, 1, 8);
     let d = one(c, 104, 0, 0, 1, 8);
     one(d, 105, 0, 1, 1, 0)
 }
 
-fn places(t: Tally) -> Tally {
-    let a = one(t, 111, 30000, 10, 1, 0);
+fn places(agreed: u32) -> u32 {
+    let a = one(agreed, 111, 30000, 10, 1, 0);
     let b = one(a, 112, 30001, 10, 1, 8);
     let c = one(b, 113, -30000, 10, 1, 0);
     let d = one(c, 114, -30001, 10, 1, 8);
@@ -76,23 +65,50 @@ fn places(t: Tally) -> Tally {
     one(e, 116, -32768, 10, 1, 8)
 }
 
-fn weights(t: Tally) -> Tally {
-    let a = one(t, 121, 0, 10, 0, 8);
+fn weights(agreed: u32) -> u32 {
+    let a = one(agreed, 121, 0, 10, 0, 8);
     let b = one(a, 122, 0, 10, 1, 0);
     let c = one(b, 123, 0, 10, 1000, 0);
     let d = one(c, 124, 0, 10, 1001, 8);
     one(d, 125, 0, 10, 65535, 8)
 }
 
+// Two marks, in lists of these lengths.
+fn two(
+    agreed: u32,
+    case: u32,
+    first: i16,
+    second: i16,
+    places: usize,
+    lengths: usize,
+    weights: usize,
+    number: u8,
+) -> u32
+    requires { ⌜ (places ≤ 2) × (lengths ≤ 2) × (weights ≤ 3) ⌝ }
+{
+    let place_list = [first, second];
+    let length_list = [10u8; 2];
+    let weight_list = [1u16; 3];
+    all_give(
+        agreed,
+        case,
+        &place_list[..places],
+        &length_list[..lengths],
+        &weight_list[..weights],
+        number,
+        number,
+    )
+}
+
 // Places that do not rise, lists of unequal length, and no marks.
-fn lists(t: Tally) -> Tally {
-    let a = all_give(t, 131, &[5, 5], &[10; 2], &[1; 2], 8, 8);
-    let b = all_give(a, 132, &[5, 4], &[10; 2], &[1; 2], 8, 8);
-    let c = all_give(b, 133, &[-5, 5], &[10; 2], &[1; 2], 0, 0);
-    let d = all_give(c, 134, &[5, 5], &[10], &[1; 2], 6, 6);
-    let e = all_give(d, 135, &[5, 6], &[10; 2], &[1; 3], 6, 6);
-    let f = all_give(e, 136, &[5], &[10; 2], &[1; 2], 6, 6);
-    all_give(f, 137, &[0; 0], &[0; 0], &[0; 0], 0, 0)
+fn lists(agreed: u32) -> u32 {
+    let a = two(agreed, 131, 5, 5, 2, 2, 2, 8);
+    let b = two(a, 132, 5, 4, 2, 2, 2, 8);
+    let c = two(b, 133, -5, 5, 2, 2, 2, 0);
+    let d = two(c, 134, 5, 5, 2, 1, 2, 6);
+    let e = two(d, 135, 5, 6, 2, 2, 3, 6);
+    let f = two(e, 136, 5, 6, 1, 2, 2, 6);
+    two(f, 137, 5, 6, 0, 0, 0, 0)
 }
 
 // A mark at each 15th dot from −30,000 on, which makes 4,001 of them up to 30,000.
@@ -110,55 +126,48 @@ fn set_places(places: &mut [i16; 4001]) {
     }
 }
 
-// The four calls on the first `n` marks.
+// The first so many of the 4,001 marks, in a list of so many lengths, all `dots`.
 fn first_give(
-    t: Tally,
+    agreed: u32,
     case: u32,
     places: &[i16],
-    lengths: &[u8],
-    weights: &[u16],
-    n: usize,
+    marks: usize,
+    lengths: usize,
+    dots: u8,
     small: u8,
     large: u8,
-) -> Tally {
-    if places.len() < n {
-        return tally::holds(t, case, false);
-    }
-    if lengths.len() < n {
-        return tally::holds(t, case, false);
-    }
-    if weights.len() < n {
-        return tally::holds(t, case, false);
-    }
+) -> u32
+    requires { ⌜ (length (now places) ≡ 4001) × (marks ≤ 4001) × (lengths ≤ 4001) ⌝ }
+{
+    let length_list = [dots; 4001];
+    let weight_list = [1u16; 4001];
     all_give(
-        t,
+        agreed,
         case,
-        &places[..n],
-        &lengths[..n],
-        &weights[..n],
+        &places[..marks],
+        &length_list[..lengths],
+        &weight_list[..marks],
         small,
         large,
     )
 }
 
 // 60 and 61 marks, 4,000 and 4,001; 7 comes before 8, and 6 before 7.
-fn many(t: Tally, places: &[i16; 4001]) -> Tally {
-    let lengths = [10u8; 4001];
-    let weights = [1u16; 4001];
-    let a = first_give(t, 141, places, &lengths, &weights, 60, 0, 0);
-    let b = first_give(a, 142, places, &lengths, &weights, 61, 7, 0);
-    let c = first_give(b, 143, places, &lengths, &weights, 4000, 7, 0);
-    let d = first_give(c, 144, places, &lengths, &weights, 4001, 7, 7);
-    let e = first_give(d, 145, places, &[0; 61], &weights, 61, 7, 8);
-    all_give(e, 146, places, &[10; 4000], &weights, 6, 6)
+fn many(agreed: u32, places: &[i16; 4001]) -> u32 {
+    let a = first_give(agreed, 141, places, 60, 60, 10, 0, 0);
+    let b = first_give(a, 142, places, 61, 61, 10, 7, 0);
+    let c = first_give(b, 143, places, 4000, 4000, 10, 7, 0);
+    let d = first_give(c, 144, places, 4001, 4001, 10, 7, 7);
+    let e = first_give(d, 145, places, 61, 61, 0, 7, 8);
+    first_give(e, 146, places, 4001, 4000, 10, 6, 6)
 }
 
-fn counts(t: Tally) -> Tally {
+fn counts(agreed: u32) -> u32 {
     let mut places = [0i16; 4001];
     set_places(&mut places);
-    many(t, &places)
+    many(agreed, &places)
 }
 
-pub fn ranges() -> Tally {
-    counts(lists(weights(places(lengths(tally::none_yet())))))
+pub fn ranges() -> u32 {
+    counts(lists(weights(places(lengths(0)))))
 }

@@ -1,23 +1,22 @@
 // A plain search through all choices.
+use crate::choices;
 use crate::labels;
 
-// Whether there is a placing, and which choice is the first.
-pub enum Search {
-    First(u32),
-    Nothing,
-    Unfinished,
-}
+// What a search gives that finds no placing: there is none, or its turns were used up. No strip has so many choices.
+pub const NOTHING: u32 = 4294967295;
+
+pub const UNFINISHED: u32 = 4294967294;
 
 // The next choice to try after one whose labels overlap from mark `k` on. In the model FULL none is left out; sliding has too many
 // choices, and those are left out that have the same digits up to that of mark `k`.
 fn skipped(model: u32, n: usize, choice: u32, k: usize) -> u32 {
-    if model == labels::FULL {
+    if model == choices::FULL {
         return std::num::wrapping_add_u32(choice, 1);
     }
     if n <= k {
         return std::num::wrapping_add_u32(choice, 1);
     }
-    let after = labels::choices(model, n - k - 1);
+    let after = choices::choices(model, n - k - 1);
     if after == 0 {
         return std::num::wrapping_add_u32(choice, 1);
     }
@@ -28,20 +27,20 @@ fn skipped(model: u32, n: usize, choice: u32, k: usize) -> u32 {
 const TURNS: u32 = 4000000;
 
 // The first choice that is a placing.
-pub fn first_placing(model: u32, dots: &[u8; 8], lengths: &[u8; 8], n: usize) -> Search {
-    let all = labels::choices(model, n);
+pub fn first_placing(model: u32, dots: &[u8; 8], lengths: &[u8; 8], n: usize) -> u32 {
+    let all = choices::choices(model, n);
     let mut choice = 0;
     let mut turn = 0;
     while turn < TURNS {
         if all <= choice {
-            return Search::Nothing;
+            return NOTHING;
         }
-        let k = labels::clash(model, dots, lengths, n, &labels::digits(model, n, choice));
+        let k = labels::clash(model, dots, lengths, n, &choices::digits(model, n, choice));
         if n <= k {
-            return Search::First(choice);
+            return choice;
         }
         choice = skipped(model, n, choice, k);
         turn += 1;
     }
-    Search::Unfinished
+    UNFINISHED
 }

@@ -1,83 +1,79 @@
-// How many comparisons a group made and how many of them agreed, and the lines that it prints.
+// How many comparisons of a group agreed so far, and the lines that it prints. A comparison that disagrees is not counted, and
+// prints a line of its own.
 use libc::STDOUT_FILENO;
 
-pub struct Tally {
-    pub compared: u32,
-    pub agreed: u32,
-    // Of random strips: how many have every mark labelled.
-    pub whole: u32,
-}
+// What a random strip shows of a pass: it disagrees, or agrees, or agrees and has a label for every mark.
+pub const DISAGREES: u8 = 0;
 
-pub fn none_yet() -> Tally {
-    Tally {
-        compared: 0,
-        agreed: 0,
-        whole: 0,
+pub const AGREES: u8 = 1;
+
+pub const AGREES_WHOLE: u8 = 2;
+
+pub fn outcome(agrees: bool, is_whole: bool) -> u8 {
+    if !agrees {
+        return DISAGREES;
     }
+    if is_whole { AGREES_WHOLE } else { AGREES }
 }
 
 fn one_if(test: bool) -> u32 {
     if test { 1 } else { 0 }
 }
 
-// The tally after one more comparison.
-pub fn counted(t: Tally, agrees: bool, is_whole: bool) -> Tally {
-    Tally {
-        compared: std::num::wrapping_add_u32(t.compared, 1),
-        agreed: std::num::wrapping_add_u32(t.agreed, one_if(agrees)),
-        whole: std::num::wrapping_add_u32(t.whole, one_if(is_whole)),
-    }
+// One more if the test holds.
+pub fn counted(count: u32, test: bool) -> u32 {
+    std::num::wrapping_add_u32(count, one_if(test))
 }
 
-// The tally after a case with a number for its answer; a case that disagrees prints a line.
-pub fn same(t: Tally, case: u32, got: u64, wanted: u64) -> Tally {
+pub fn print(text: &[u8]) {
+    io::write_all(STDOUT_FILENO, text);
+}
+
+// A text and a number behind it.
+pub fn print_number(text: &[u8], number: u64) {
+    io::write_all(STDOUT_FILENO, text);
+    io::print_decimal(STDOUT_FILENO, number);
+}
+
+// The line for a case that disagrees.
+fn print_case(case: u32, got: u64, wanted: u64) {
+    print_number(b"case ", case as u64);
+    print_number(b" gives ", got);
+    print_number(b" and not ", wanted);
+    print(b"\n");
+}
+
+// The count after a case with a number for its answer.
+pub fn same(agreed: u32, case: u32, got: u64, wanted: u64) -> u32 {
     if got != wanted {
-        io::write_all(STDOUT_FILENO, b"case ");
-        io::print_decimal(STDOUT_FILENO, case as u64);
-        io::write_all(STDOUT_FILENO, b" gives ");
-        io::print_decimal(STDOUT_FILENO, got);
-        io::write_all(STDOUT_FILENO, b" and not ");
-        io::print_decimal(STDOUT_FILENO, wanted);
-        io::write_all(STDOUT_FILENO, b"\n");
+        print_case(case, got, wanted);
+        return agreed;
     }
-    counted(t, got == wanted, false)
+    std::num::wrapping_add_u32(agreed, 1)
 }
 
-// The line of a group: its name, and "N agree" if all its comparisons do.
-pub fn print_group(name: &[u8], t: Tally) {
-    io::write_all(STDOUT_FILENO, name);
-    io::write_all(STDOUT_FILENO, b" ");
-    if t.agreed != t.compared {
-        io::print_decimal(STDOUT_FILENO, t.agreed as u64);
-        io::write_all(STDOUT_FILENO, b" of ");
-    }
-    io::print_decimal(STDOUT_FILENO, t.compared as u64);
-    io::write_all(STDOUT_FILENO, b" agree\n");
+pub fn same_byte(agreed: u32, case: u32, got: u8, wanted: u8) -> u32 {
+    same(agreed, case, got as u64, wanted as u64)
 }
 
-// The line of a group of random strips, with the number of those in which every mark has a label.
-pub fn print_random(name: &[u8], t: Tally) {
-    print_group(name, t);
-    io::write_all(STDOUT_FILENO, b"  every mark labelled in ");
-    io::print_decimal(STDOUT_FILENO, t.whole as u64);
-    io::write_all(STDOUT_FILENO, b"\n");
+pub fn same_number(agreed: u32, case: u32, got: u32, wanted: u32) -> u32 {
+    same(agreed, case, got as u64, wanted as u64)
 }
 
-pub fn same_byte(t: Tally, case: u32, got: u8, wanted: u8) -> Tally {
-    same(t, case, got as u64, wanted as u64)
+pub fn same_count(agreed: u32, case: u32, got: usize, wanted: usize) -> u32 {
+    same(agreed, case, got as u64, wanted as u64)
 }
 
-pub fn same_number(t: Tally, case: u32, got: u32, wanted: u32) -> Tally {
-    same(t, case, got as u64, wanted as u64)
+// The count after a case that must hold.
+pub fn holds(agreed: u32, case: u32, is_so: bool) -> u32 {
+    same_number(agreed, case, one_if(is_so), 1)
 }
 
-pub fn same_count(t: Tally, case: u32, got: usize, wanted: usize) -> Tally {
-    same(t, case, got as u64, wanted as u64)
-}
-
-// The tally after a case that must hold.
-pub fn holds(t: Tally, case: u32, is_so: bool) -> Tally {
-    same_number(t, case, one_if(is_so), 1)
+// The line of a group.
+pub fn print_group(name: &[u8], agreed: u32) {
+    print(name);
+    print_number(b" ", agreed as u64);
+    print(b" agree\n");
 }
 
 // Whether a list begins with these bytes.

@@ -6,10 +6,10 @@ use Rattle.cases.proofs.jobs.truncations.Statement.{statement}
 use Rattle.cases.proofs.jobs.truncations.Tie as tie
 
 abbrev Inv-loop : tie.InvT-loop
-Inv-loop job all₀ k₀ all k = k ≤ length job
+Inv-loop agreed job all₀ k₀ all k = k ≤ length job
 
 abbrev μ-loop : tie.MeasureT-loop
-μ-loop job all₀ k₀ all k = length job - k
+μ-loop agreed job all₀ k₀ all k = length job - k
 
 loop-holds : tie.Need-loop-holds Inv-loop μ-loop
 loop-holds c = search needs

@@ -1,19 +1,10 @@
--- `cases::random_slide::run_first` is safe and ends: the tests show that each part is as long as its count.
+-- `cases::random_slide::run_first` is safe and ends: the contract shows that each part is as long as its count.
 use borrow.Author.Needs.{needs}
 use lib.Seq.{length-take-le}
 use mathlib.Core.Path.{sym}
 use native.Mathlib.Omega.{arith}
 use Rattle.cases.proofs.random_slide.run_first.Statement.{statement}
 use Rattle.cases.proofs.random_slide.run_first.Tie as tie
-
-returns : tie.Need-returns
-returns c = search needs
-
-returns-2 : tie.Need-returns-2
-returns-2 c = search needs
-
-returns-3 : tie.Need-returns-3
-returns-3 c = search needs
 
 slice-aggregate-slide : tie.Need-slice-aggregate-slide
 slice-aggregate-slide c = sym (length-take-le _ _ (omega arith))
@@ -27,30 +18,27 @@ slice-aggregate-slide-3 c = sym (length-take-le _ _ (omega arith))
 slice-aggregate-slide-4 : tie.Need-slice-aggregate-slide-4
 slice-aggregate-slide-4 c = search needs
 
-slice-aggregate-slide-5 : tie.Need-slice-aggregate-slide-5
-slice-aggregate-slide-5 c = search needs
-
-slice-aggregate-slide-6 : tie.Need-slice-aggregate-slide-6
-slice-aggregate-slide-6 c = search needs
-
 slide-requires : tie.Need-slide-requires
 slide-requires c κs = search needs
 
-returns-4 : tie.Need-returns-4
-returns-4 c = search needs
+same-length : tie.Need-same-length
+same-length c = search needs
+
+same-length-2 : tie.Need-same-length-2
+same-length-2 c = search needs
+
+returns : tie.Need-returns
+returns c = search needs
 
 pub run-first-spec : {M : Type 1} → statement M
 run-first-spec =
     tie.close
     (tie.spec
-    returns
-    returns-2
-    returns-3
     slice-aggregate-slide
     slice-aggregate-slide-2
     slice-aggregate-slide-3
     slice-aggregate-slide-4
-    slice-aggregate-slide-5
-    slice-aggregate-slide-6
     slide-requires
-    returns-4)
+    same-length
+    same-length-2
+    returns)

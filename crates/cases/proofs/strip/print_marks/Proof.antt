@@ -5,16 +5,31 @@ use Rattle.cases.proofs.strip.print_marks.Statement.{statement}
 use Rattle.cases.proofs.strip.print_marks.Tie as tie
 
 abbrev Inv-loop : tie.InvT-loop
-Inv-loop s n i₀ i = i ≤ n
+Inv-loop n dots lengths weights i₀ i = i ≤ n
 
 abbrev μ-loop : tie.MeasureT-loop
-μ-loop s n i₀ i = n - i
-
-count-of-requires : tie.Need-count-of-requires Inv-loop μ-loop
-count-of-requires c κs = search needs
+μ-loop n dots lengths weights i₀ i = n - i
 
 loop-holds : tie.Need-loop-holds Inv-loop μ-loop
 loop-holds c = search needs
+
+at-requires : tie.Need-at-requires Inv-loop μ-loop
+at-requires c κs = search needs
+
+wider-requires : tie.Need-wider-requires Inv-loop μ-loop
+wider-requires c κs = search needs
+
+at-requires-2 : tie.Need-at-requires-2 Inv-loop μ-loop
+at-requires-2 c κs = search needs
+
+wider-requires-2 : tie.Need-wider-requires-2 Inv-loop μ-loop
+wider-requires-2 c κs = search needs
+
+number-at-requires : tie.Need-number-at-requires Inv-loop μ-loop
+number-at-requires c κs = search needs
+
+wide-requires : tie.Need-wide-requires Inv-loop μ-loop
+wide-requires c κs = search needs
 
 print-mark-requires : tie.Need-print-mark-requires Inv-loop μ-loop
 print-mark-requires c κs = search needs
@@ -37,8 +52,13 @@ print-marks-spec =
     (tie.spec
     Inv-loop
     μ-loop
-    count-of-requires
     loop-holds
+    at-requires
+    wider-requires
+    at-requires-2
+    wider-requires-2
+    number-at-requires
+    wide-requires
     print-mark-requires
     add-i
     loop-less

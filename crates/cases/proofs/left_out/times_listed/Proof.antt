@@ -1,8 +1,8 @@
--- `cases::random_best::times_listed` is safe and ends: `i` rises to `8`.
+-- `cases::left_out::times_listed` is safe and ends: `i` rises to `8`.
 use Prim.Native.Nat.{_≤_, _-_}
 use borrow.Author.Needs.{needs}
-use Rattle.cases.proofs.random_best.times_listed.Statement.{statement}
-use Rattle.cases.proofs.random_best.times_listed.Tie as tie
+use Rattle.cases.proofs.left_out.times_listed.Statement.{statement}
+use Rattle.cases.proofs.left_out.times_listed.Tie as tie
 
 abbrev Inv-loop : tie.InvT-loop
 Inv-loop left-out count mark times₀ i₀ times i = i ≤ 8

@@ -1,8 +1,8 @@
--- `cases::random_best::is_left_out_set` is safe and ends: `i` rises to `8`.
+-- `cases::left_out::is_left_out_set` is safe and ends: `i` rises to `8`.
 use Prim.Native.Nat.{_≤_, _-_}
 use borrow.Author.Needs.{needs}
-use Rattle.cases.proofs.random_best.is_left_out_set.Statement.{statement}
-use Rattle.cases.proofs.random_best.is_left_out_set.Tie as tie
+use Rattle.cases.proofs.left_out.is_left_out_set.Statement.{statement}
+use Rattle.cases.proofs.left_out.is_left_out_set.Tie as tie
 
 abbrev Inv-loop : tie.InvT-loop
 Inv-loop n positions left-out count i₀ i = i ≤ 8

@@ -1,8 +1,8 @@
--- `cases::random_best::greatest_sum` is safe and ends: `choice` rises to `all`.
+-- `cases::sums::greatest_sum` is safe and ends: `choice` rises to `all`.
 use Prim.Native.Nat.{_≤_, _-_}
 use borrow.Author.Needs.{needs}
-use Rattle.cases.proofs.random_best.greatest_sum.Statement.{statement}
-use Rattle.cases.proofs.random_best.greatest_sum.Tie as tie
+use Rattle.cases.proofs.sums.greatest_sum.Statement.{statement}
+use Rattle.cases.proofs.sums.greatest_sum.Tie as tie
 
 abbrev Inv-loop : tie.InvT-loop
 Inv-loop dots lengths weights n all greatest₀ choice₀ greatest choice = choice ≤ all

@@ -1,8 +1,8 @@
--- `cases::random_slide::slid_by` is safe and ends: `slid` rises to `8`.
+-- `cases::slid::slid_by` is safe and ends: `slid` rises to `8`.
 use Prim.Native.Nat.{_≤_, _-_}
 use borrow.Author.Needs.{needs}
-use Rattle.cases.proofs.random_slide.slid_by.Statement.{statement}
-use Rattle.cases.proofs.random_slide.slid_by.Tie as tie
+use Rattle.cases.proofs.slid.slid_by.Statement.{statement}
+use Rattle.cases.proofs.slid.slid_by.Tie as tie
 
 abbrev Inv-loop : tie.InvT-loop
 Inv-loop dot length edge slid₀ slid = slid ≤ 8
