@@ -40,26 +40,6 @@ appended-more b at i word c p h k =
     let n : at + i + 1 ≡ at + (i + 1) = omega arith in
     rw (e, sym n) (appended-join p (appended-byte c (at + i) (getD word i 0) k))
 
--- a digit is at most one byte
-pub digit-short : (power n : ℕ) → length (digitAt power n) ≤ 1
-digit-short power n = by-leb power n (λ t. length (cond t ((48 + n / power % 10) ∷ []) []) ≤ 1) (λ _. omega arith) (λ _. omega arith)
-
--- and a number at most five
-pub number-short : (n : ℕ) → length (decimal n) ≤ 5
-unfolding decimal
-number-short n =
-    omega (
-      arith,
-      length-append (digitAt 10000 n ++ digitAt 1000 n ++ digitAt 100 n ++ digitAt 10 n) ((48 + n % 10) ∷ []),
-      length-append (digitAt 10000 n ++ digitAt 1000 n ++ digitAt 100 n) (digitAt 10 n),
-      length-append (digitAt 10000 n ++ digitAt 1000 n) (digitAt 100 n),
-      length-append (digitAt 10000 n) (digitAt 1000 n),
-      digit-short 10000 n,
-      digit-short 1000 n,
-      digit-short 100 n,
-      digit-short 10 n,
-    )
-
 -- numbers, each after a space, in two parts
 spaced-append : (xs ys : List ℕ) → spaced (xs ++ ys) ≡ spaced xs ++ spaced ys
 unfolding spaced
@@ -88,8 +68,8 @@ spacing-none before at xs count h k =
     record { some = omega arith; listed = h; roomy = k; same-length = refl; within = omega arith; appended = appended-none before at }
 
 pub spacing-more : (before : List ℕ) (at : ℕ) (xs : List ℕ) (count : ℕ) (after : List ℕ) (next i : ℕ) (after′ : List ℕ) (next′ : ℕ) → Spacing before at xs count after next i → i < count
-    → Appended after next ((32 ∷ []) ++ decimal (getD xs i 0)) after′ next′ → length after′ ≡ length after → Spacing before at xs count after′ next′ (i + 1)
-spacing-more before at xs count after next i after′ next′ s h p e =
+    → Appended after next ((32 ∷ []) ++ decimal (getD xs i 0)) after′ next′ → next′ ≤ next + 6 → length after′ ≡ length after → Spacing before at xs count after′ next′ (i + 1)
+spacing-more before at xs count after next i after′ next′ s h p short e =
     let listed = s .listed in
     let within = s .within in
     record {
@@ -97,7 +77,7 @@ spacing-more before at xs count after next i after′ next′ s h p e =
       listed = listed;
       roomy = s .roomy;
       same-length = e ∙ s .same-length;
-      within = omega (arith, p .next-is, number-short (getD xs i 0));
+      within = omega arith;
       appended = rw (one-more-spaced xs i (omega arith)) (appended-join (s .appended) p);
     }
 
@@ -108,33 +88,9 @@ spacing-done before at xs count after next i s h =
     let e : i ≡ count = omega arith in
     subst (λ (n : ℕ). Appended before at (spaced (take n xs)) after next) e (s .appended)
 
--- some numbers take at most six bytes each
-pub spaced-short : (n : ℕ) (xs : List ℕ) → length (spaced (take n xs)) ≤ 6 * n
-unfolding spaced
-spaced-short zero xs = omega arith
-spaced-short (suc n) [] = omega arith
-spaced-short (suc n) (x ∷ xs) = omega (arith, length-append (32 ∷ decimal x) (spaced (take n xs)), number-short x, spaced-short n xs)
-
 -- a text at the front of a list, unchanged beyond it
 pub front-written : {b c text : List ℕ} {n : ℕ} → Appended b 0 text c n → c ≡ text ++ drop (length text) b
 front-written {b} {c} {text} {n} p =
     let m : n ≡ 0 + length text = p .next-is in
     let e : n ≡ length text = omega arith in
     sym (take-append-drop n c) ∙ ap (λ (xs : List ℕ). xs ++ drop n c) (p .text) ∙ ap (λ (xs : List ℕ). text ++ xs) (p .beyond) ∙ ap (λ (k : ℕ). text ++ drop k b) e
-
--- a best line has at most 20 bytes
-pub sums-short : (sum all : ℕ) → length (bestLine sum all) ≤ 20
-sums-short sum all =
-    omega (
-      arith,
-      length-append (bestWord ++ decimal sum ++ ofWord ++ decimal all) lineEnd,
-      length-append (bestWord ++ decimal sum ++ ofWord) (decimal all),
-      length-append (bestWord ++ decimal sum) ofWord,
-      length-append bestWord (decimal sum),
-      number-short sum,
-      number-short all,
-    )
-
--- a count's line has at most 12 bytes
-pub count-short : (n : ℕ) → length (marksLine n) ≤ 12
-count-short n = omega (arith, length-append (marksWord ++ decimal n) lineEnd, length-append marksWord (decimal n), number-short n)

@@ -1,4 +1,4 @@
--- The lines of a whole strip, and how long they are.
+-- The lines of a whole strip.
 use mathlib.Core.Path.{_≡_, refl, sym, _∙_, ap}
 use mathlib.Core.Bool.{Bool, true, false, cond}
 use mathlib.Core.List.{List, [], _∷_, _++_, map, append-assoc}
@@ -24,32 +24,8 @@ use Rattle.geometry.proofs.Whole.{found-placing}
 use Rattle.listing.specs.Text.{fullWord, lineEnd, fullTail, fullLine, slideLine, bestLine, outLine, tooLongLines, spaced}
 use Rattle.listing.specs.inner.Append.{Appended}
 use Rattle.listing.specs.inner.Lines.{BestLines, StripLines}
-use Rattle.listing.proofs.Append.{appended-join, spaced-short}
+use Rattle.listing.proofs.Append.{appended-join}
 use Rattle.listing.proofs.Passes.{appended-is}
-
-all-spaced-short : (xs : List ℕ) → length (spaced xs) ≤ 6 * length xs
-all-spaced-short xs = let e : take (length xs) xs ≡ xs = take-length xs in rw e at (spaced-short (length xs) xs)
-
-full-tail-short : (o : Option (List Position)) → ((ps : List Position) → o ≡ some ps → length ps ≤ 4000) → length (fullTail o) ≤ 24000
-full-tail-short none h = omega arith
-full-tail-short (some ps) h = omega (arith, all-spaced-short (map code ps), length-map ps code, h ps refl)
-
--- a full line has at most 24,005 bytes
-pub full-short : (zs : List ℤ) (ls ws : List ℕ) → entry 4000 zs ls ws ≡ accepted → length (fullLine (marksOf zs ls ws)) ≤ 24005
-full-short zs ls ws strip =
-    let a = entry-accepted 4000 zs ls ws strip in
-    let few = a .few in
-    omega (
-      arith,
-      length-append (fullWord ++ fullTail (firstPlacing 0 (marksOf zs ls ws))) lineEnd,
-      length-append fullWord (fullTail (firstPlacing 0 (marksOf zs ls ws))),
-      full-tail-short (firstPlacing 0 (marksOf zs ls ws))
-          (λ ps e. omega (arith, free-length 0 (marksOf zs ls ws) ps (found-placing 0 (marksOf zs ls ws) ps e .is-free), length-marks zs ls ws (a .same-lengths) (a .same-weights))),
-    )
-
-pub slide-short : (fits : Bool) → length (slideLine fits) ≤ 11
-slide-short true = omega arith
-slide-short false = omega arith
 
 -- more than 60 marks
 pub long-strip : (zs : List ℤ) (ls ws : List ℕ) (before middle after : List ℕ) (at next end : ℕ) → 60 < length zs

@@ -19,7 +19,7 @@ use crate::text::put_word;
 // "full" and the first `count` positions, each after a space.
 fn put_placing(text: &mut [u8], at: usize, positions: &[u8], count: usize) -> usize
     requires { ⌜ (count ≤ length (now positions)) × (at + (6 * count + 5) ≤ length (now text)) ⌝ }
-    ensures { λ r. ⌜ Appended (now (text .entry)) at (fullWord ++ spaced (take count (now (positions .entry))) ++ lineEnd) (now (text .exit)) r ⌝ }
+    ensures { λ r. ⌜ Appended (now (text .entry)) at (fullWord ++ spaced (take count (now (positions .entry))) ++ lineEnd) (now (text .exit)) r ⌝ ∗ ⌜ r ≤ at + (6 * count + 5) ⌝ }
 {
     let word = put_word(text, at, b"full");
     let listed = put_positions(text, word, positions, count);
@@ -35,7 +35,7 @@ pub fn put_full(
     at: usize,
 ) -> usize
     requires { ⌜ Ready 4000 (now places) (now lengths) (now weights) (now text) at 24010 ⌝ }
-    ensures { λ r. ⌜ Appended (now (text .entry)) at (fullLine (marksOf (now (places .entry)) (now (lengths .entry)) (now (weights .entry)))) (now (text .exit)) r ⌝ }
+    ensures { λ r. ⌜ Appended (now (text .entry)) at (fullLine (marksOf (now (places .entry)) (now (lengths .entry)) (now (weights .entry)))) (now (text .exit)) r ⌝ ∗ ⌜ r ≤ at + 24010 ⌝ }
 {
     let mut positions = [0u8; 4000];
     let mut work = [0i16; 20000];
@@ -59,7 +59,7 @@ pub fn slides(places: &[i16], lengths: &[u8], weights: &[u16]) -> bool
 // "slide" and "fits" or "none".
 pub fn put_slide(text: &mut [u8], at: usize, fits: bool) -> usize
     requires { ⌜ at + 11 ≤ length (now text) ⌝ }
-    ensures { λ r. ⌜ Appended (now (text .entry)) at (slideLine fits) (now (text .exit)) r ⌝ }
+    ensures { λ r. ⌜ Appended (now (text .entry)) at (slideLine fits) (now (text .exit)) r ⌝ ∗ ⌜ r ≤ at + 11 ⌝ }
 {
     if fits {
         return put_word(text, at, b"slide fits\n");
@@ -84,7 +84,7 @@ fn total_weight(weights: &[u16]) -> u32
 // "best", the greatest sum, "of" and the weight of all marks.
 fn put_sums(text: &mut [u8], at: usize, sum: u32, all: u32) -> usize
     requires { ⌜ at + 20 ≤ length (now text) ⌝ }
-    ensures { λ r. ⌜ Appended (now (text .entry)) at (bestLine sum all) (now (text .exit)) r ⌝ }
+    ensures { λ r. ⌜ Appended (now (text .entry)) at (bestLine sum all) (now (text .exit)) r ⌝ ∗ ⌜ r ≤ at + 20 ⌝ }
 {
     let word = put_word(text, at, b"best ");
     let first = put_number(text, word, sum);
@@ -153,7 +153,7 @@ pub fn put_refused(text: &mut [u8], at: usize, number: u8) -> usize
 // "marks" and the count.
 pub fn put_count(text: &mut [u8], at: usize, count: u32) -> usize
     requires { ⌜ at + 20 ≤ length (now text) ⌝ }
-    ensures { λ r. ⌜ Appended (now (text .entry)) at (marksLine count) (now (text .exit)) r ⌝ }
+    ensures { λ r. ⌜ Appended (now (text .entry)) at (marksLine count) (now (text .exit)) r ⌝ ∗ ⌜ r ≤ at + 20 ⌝ }
 {
     let word = put_word(text, at, b"marks ");
     let numbered = put_number(text, word, count);

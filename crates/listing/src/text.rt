@@ -30,7 +30,7 @@ pub fn put_word(buffer: &mut [u8], at: usize, word: &[u8]) -> usize
 // The digit of a number at a power of ten, if the number reaches it.
 fn put_digit(buffer: &mut [u8], at: usize, number: u32, power: u32) -> usize
     requires { ⌜ (at < length (now buffer)) × (0 < power) ⌝ }
-    ensures { λ r. ⌜ Appended (now (buffer .entry)) at (digitAt power number) (now (buffer .exit)) r ⌝ }
+    ensures { λ r. ⌜ Appended (now (buffer .entry)) at (digitAt power number) (now (buffer .exit)) r ⌝ ∗ ⌜ r ≤ at + 1 ⌝ }
 {
     if number < power {
         return at;
@@ -41,7 +41,7 @@ fn put_digit(buffer: &mut [u8], at: usize, number: u32, power: u32) -> usize
 // A number in decimal digits, at most five.
 pub fn put_number(buffer: &mut [u8], at: usize, number: u32) -> usize
     requires { ⌜ at + 5 ≤ length (now buffer) ⌝ }
-    ensures { λ r. ⌜ Appended (now (buffer .entry)) at (decimal number) (now (buffer .exit)) r ⌝ }
+    ensures { λ r. ⌜ Appended (now (buffer .entry)) at (decimal number) (now (buffer .exit)) r ⌝ ∗ ⌜ r ≤ at + 5 ⌝ }
 {
     let first = put_digit(buffer, at, number, 10000);
     let second = put_digit(buffer, first, number, 1000);
@@ -53,7 +53,7 @@ pub fn put_number(buffer: &mut [u8], at: usize, number: u32) -> usize
 // A number after a space.
 fn put_spaced(buffer: &mut [u8], at: usize, number: u32) -> usize
     requires { ⌜ at + 6 ≤ length (now buffer) ⌝ }
-    ensures { λ r. ⌜ Appended (now (buffer .entry)) at ((32 ∷ []) ++ decimal number) (now (buffer .exit)) r ⌝ }
+    ensures { λ r. ⌜ Appended (now (buffer .entry)) at ((32 ∷ []) ++ decimal number) (now (buffer .exit)) r ⌝ ∗ ⌜ r ≤ at + 6 ⌝ }
 {
     let after = put_byte(buffer, at, 32);
     put_number(buffer, after, number)
@@ -62,7 +62,7 @@ fn put_spaced(buffer: &mut [u8], at: usize, number: u32) -> usize
 // The first `count` positions, each after a space.
 pub fn put_positions(buffer: &mut [u8], at: usize, positions: &[u8], count: usize) -> usize
     requires { ⌜ (count ≤ length (now positions)) × (at + 6 * count ≤ length (now buffer)) ⌝ }
-    ensures { λ r. ⌜ Appended (now (buffer .entry)) at (spaced (take count (now (positions .entry)))) (now (buffer .exit)) r ⌝ }
+    ensures { λ r. ⌜ Appended (now (buffer .entry)) at (spaced (take count (now (positions .entry)))) (now (buffer .exit)) r ⌝ ∗ ⌜ r ≤ at + 6 * count ⌝ }
 {
     let mut next = at;
     let mut i = 0;
@@ -76,7 +76,7 @@ pub fn put_positions(buffer: &mut [u8], at: usize, positions: &[u8], count: usiz
 // The first `count` mark numbers, each after a space.
 pub fn put_marks(buffer: &mut [u8], at: usize, numbers: &[u16], count: usize) -> usize
     requires { ⌜ (count ≤ length (now numbers)) × (at + 6 * count ≤ length (now buffer)) ⌝ }
-    ensures { λ r. ⌜ Appended (now (buffer .entry)) at (spaced (take count (now (numbers .entry)))) (now (buffer .exit)) r ⌝ }
+    ensures { λ r. ⌜ Appended (now (buffer .entry)) at (spaced (take count (now (numbers .entry)))) (now (buffer .exit)) r ⌝ ∗ ⌜ r ≤ at + 6 * count ⌝ }
 {
     let mut next = at;
     let mut i = 0;

@@ -1,21 +1,27 @@
 -- `best::best` meets its contract: the first check that is not passed decides, and else the parts give what it says.
 use mathlib.Core.Path.{_≡_}
 use native.Mathlib.Omega.{arith}
-use Rattle.geometry.specs.Refusal.{accepted, numberOf}
+use Rattle.geometry.specs.Refusal.{Verdict, accepted, numberOf}
 use Rattle.best.specs.Best.{Lent, lent, verdictOf}
 use Rattle.best.proofs.Answers.{verdict-number, verdict-accepted, answer-refused, accepted-strip, positions-enough, left-out-enough, answer-accepted}
 use borrow.Author.Needs.{needs}
 use Rattle.best.proofs.best.Statement.{statement}
 use Rattle.best.proofs.best.Tie as tie
 
--- the lent lists as they came, and the verdict on them
-abbrev before : tie.After-check-pass → Lent
-before c = lent (c .before .before .before .before .before .before .before .args .positions .now) (c .before .before .before .before .before .before .before .args .left-out .now) (c .before .before .before .before .before .before .before .args .work .now)
+-- the start, the lent lists as they came, and the verdict on them
+abbrev start : tie.After-check-pass → tie.Start
+start c = c .before .before .before .before .before .before .before
 
-number-is : (c : tie.After-check-pass) → c .check-pass .result ≡ numberOf (verdictOf (c .before .before .before .before .before .before .before .args .places .now) (c .before .before .before .before .before .before .before .args .lengths .now) (c .before .before .before .before .before .before .before .args .weights .now) (before c))
+abbrev before : tie.After-check-pass → Lent
+before c = lent (start c .args .positions .now) (start c .args .left-out .now) (start c .args .work .now)
+
+abbrev verdict : tie.After-check-pass → Verdict
+verdict c = verdictOf (start c .args .places .now) (start c .args .lengths .now) (start c .args .weights .now) (before c)
+
+number-is : (c : tie.After-check-pass) → c .check-pass .result ≡ numberOf (verdict c)
 number-is c = verdict-number _ _ _ (before c) _ (c .before .smaller .result) (c .before .smaller .ensures) (c .check-pass .ensures)
 
-passes : (c : tie.Else1) → verdictOf (c .before .before .before .before .before .before .before .before .args .places .now) (c .before .before .before .before .before .before .before .before .args .lengths .now) (c .before .before .before .before .before .before .before .before .args .weights .now) (before (c .before)) ≡ accepted
+passes : (c : tie.Else1) → verdict (c .before) ≡ accepted
 passes c = verdict-accepted _ _ _ (before (c .before)) _ (number-is (c .before)) (c .if1 .left)
 
 smaller-requires : tie.Need-smaller-requires
@@ -28,12 +34,14 @@ returns : tie.Need-returns
 returns c = answer-refused _ _ _ (before (c .before)) _ (number-is (c .before)) (c .if1 .taken)
 
 label-marks-requires : tie.Need-label-marks-requires
-label-marks-requires c κs = (accepted-strip _ _ _ (before (c .before .before .before)) (passes (c .before .before)), positions-enough _ _ _ (before (c .before .before .before)) (passes (c .before .before)))
+label-marks-requires c κs =
+    let ok = passes (c .before .before) in
+    let b = before (c .before .before .before) in (accepted-strip _ _ _ b ok, positions-enough _ _ _ b ok)
 
 list-left-out-requires : tie.Need-list-left-out-requires
 list-left-out-requires c κs =
-    let b = before (c .before .before .before .before .before .before .before .before .before .before) in
     let ok = passes (c .before .before .before .before .before .before .before .before .before) in
+    let b = before (c .before .before .before .before .before .before .before .before .before .before) in
     let p = positions-enough _ _ _ b ok in
     let k = c .before .before .before .before .before .before .label-marks .kept .1 .1 .1 .0 in
     (accepted-strip _ _ _ b ok .few, (omega arith, left-out-enough _ _ _ b ok))

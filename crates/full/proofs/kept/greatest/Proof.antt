@@ -45,32 +45,39 @@ larger-requires-3 c κs = search needs
 
 returns : tie.Need-returns
 returns c =
+    let held = c .before .before .before .before .before .before .before .before .before .before .before .fits in
+    let left-here = c .before .before .before .before .before .before .before .before .before .allowed in
+    let right-here = c .before .before .before .before .before .before .before .allowed2 in
+    let left-there = c .before .before .before .before .before .allowed3 in
+    let right-there = c .before .before .before .allowed4 in
+    let here = c .before .before .larger in
+    let there = c .before .larger2 in
     rw (
       fetched (c .larger3 .result) (c .larger3 .ok),
       c .larger3 .ensures,
-      fetched (c .before .before .larger .result) (c .before .before .larger .ok),
-      fetched (c .before .larger2 .result) (c .before .larger2 .ok),
-      c .before .before .larger .ensures,
-      c .before .larger2 .ensures,
-      fetched (c .before .before .before .before .before .before .before .before .before .allowed .result) (c .before .before .before .before .before .before .before .before .before .allowed .ok),
-      fetched (c .before .before .before .before .before .before .before .allowed2 .result) (c .before .before .before .before .before .before .before .allowed2 .ok),
-      fetched (c .before .before .before .before .before .allowed3 .result) (c .before .before .before .before .before .allowed3 .ok),
-      fetched (c .before .before .before .allowed4 .result) (c .before .before .before .allowed4 .ok),
-      c .before .before .before .before .before .before .before .before .before .allowed .ensures,
-      c .before .before .before .before .before .before .before .allowed2 .ensures,
-      c .before .before .before .before .before .allowed3 .ensures,
-      c .before .before .before .allowed4 .ensures,
+      fetched (here .result) (here .ok),
+      fetched (there .result) (there .ok),
+      here .ensures,
+      there .ensures,
+      fetched (left-here .result) (left-here .ok),
+      fetched (right-here .result) (right-here .ok),
+      fetched (left-there .result) (left-there .ok),
+      fetched (right-there .result) (right-there .ok),
+      left-here .ensures,
+      right-here .ensures,
+      left-there .ensures,
+      right-there .ensures,
       c .before .before .before .before .before .before .before .before .before .before .at-most .ensures,
       c .before .before .before .before .before .before .before .before .at-most2 .ensures,
       c .before .before .before .before .before .before .at-most3 .ensures,
       c .before .before .before .before .at-most4 .ensures,
-      back (c .before .before .before .before .before .before .before .before .before .before .before .fits .reach),
-      back (c .before .before .before .before .before .before .before .before .before .before .before .fits .left),
-      back (c .before .before .before .before .before .before .before .before .before .before .before .fits .place),
-      back (c .before .before .before .before .before .before .before .before .before .before .before .fits .own-left),
-      back (c .before .before .before .before .before .before .before .before .before .before .before .fits .own-right),
-      back (c .before .before .before .before .before .before .before .before .before .before .before .fits .other-left),
-      back (c .before .before .before .before .before .before .before .before .before .before .before .fits .other-right),
+      back (held .reach),
+      back (held .left),
+      back (held .place),
+      back (held .own-left),
+      back (held .own-right),
+      back (held .other-left),
+      back (held .other-right),
     )
     refl
 

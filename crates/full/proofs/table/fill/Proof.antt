@@ -4,7 +4,9 @@ use mathlib.Core.Path.{_≡_, refl, sym, _∙_, ap}
 use mathlib.Core.List.{[], _∷_}
 use Prim.Native.Nat.{ℕ, _-_, _*_}
 use native.Mathlib.Omega.{arith}
-use lib.IntN.{pos}
+use lib.IntN.{ℤ, pos}
+use mir.Syntax.{w16}
+use mir.Val.{toZ, ofZ}
 use lib.ListN.{length, getD, drop}
 use lib.Seq.{length-sets}
 use Rattle.geometry.specs.Mark.{placeInRange}
@@ -23,6 +25,22 @@ Inv-loop places lengths work₀ next₀ i₀ work next i = Filling places length
 
 abbrev μ-loop : tie.MeasureT-loop
 μ-loop places lengths work₀ next₀ i₀ work next i = i
+
+-- the places of the current mark and of the one before it, once they are read
+abbrev start : tie.After-kept-before-arg Inv-loop μ-loop → tie.Start Inv-loop μ-loop
+start p = p .before .before .before .before .before .before .before .before
+
+abbrev placeAt : tie.After-kept-before-arg Inv-loop μ-loop → ℕ → ℤ
+placeAt p k = getD (start p .args .places .now) k (pos 0)
+
+abbrev index : tie.After-kept-before-arg Inv-loop μ-loop → ℕ
+index p = p .before .before .loop .i
+
+before-read : (p : tie.After-kept-before-arg Inv-loop μ-loop) → toZ w16 (ofZ w16 (placeAt p (index p - 1))) ≡ placeAt p (index p - 1)
+before-read p = fetched (placeAt p (index p - 1)) (p .kept-before-arg .given)
+
+here-read : (q : tie.After-kept-before-arg2 Inv-loop μ-loop) → toZ w16 (ofZ w16 (placeAt (q .before .before) (index (q .before .before)))) ≡ placeAt (q .before .before) (index (q .before .before))
+here-read q = fetched (placeAt (q .before .before) (index (q .before .before))) (q .kept-before-arg2 .given)
 
 returns : tie.Need-returns Inv-loop μ-loop
 returns c = record { rows = λ j low high. absurd (omega arith); first-count = λ some. absurd (omega arith); empty-count = λ none. refl; rest-kept = refl }
@@ -62,10 +80,11 @@ shared-slice-read-kept-before-2 c = omega arith
 
 kept-before-requires : tie.Need-kept-before-requires Inv-loop μ-loop
 kept-before-requires c κs =
-    let f = c .before .before .before .before .before .loop .inv in
+    let p : tie.After-kept-before-arg Inv-loop μ-loop = c .before .before .before in
+    let f = p .before .before .loop .inv in
     let inside = f .inside in (
-      rw (fetched (getD (c .before .before .before .before .before .before .before .before .before .before .before .args .places .now) (c .before .before .before .before .before .loop .i - 1) (pos 0)) (c .before .before .before .kept-before-arg .given)) (every-at placeInRange (c .before .before .before .before .before .before .before .before .before .before .before .args .places .now) (pos 0) (c .before .before .before .before .before .loop .i - 1) (f .ready .places-good) (omega arith)),
-      rw (fetched (getD (c .before .before .before .before .before .before .before .before .before .before .before .args .places .now) (c .before .before .before .before .before .loop .i) (pos 0)) (c .before .kept-before-arg2 .given)) (every-at placeInRange (c .before .before .before .before .before .before .before .before .before .before .before .args .places .now) (pos 0) (c .before .before .before .before .before .loop .i) (f .ready .places-good) (omega arith)),
+      rw (before-read p) (every-at placeInRange (start p .args .places .now) (pos 0) (index p - 1) (f .ready .places-good) (omega arith)),
+      rw (here-read (c .before)) (every-at placeInRange (start p .args .places .now) (pos 0) (index p) (f .ready .places-good) (omega arith)),
     )
 
 sub-i-2 : tie.Need-sub-i-2 Inv-loop μ-loop
@@ -79,8 +98,7 @@ loop-less c = omega arith
 
 loop-again : tie.Need-loop-again Inv-loop μ-loop
 loop-again c =
-    filling-more _ _ _ _ _ _ _ _ _ _ _ (c .before .before .before .before .before .before .before .before .before .loop .inv) (omega arith)
-    (rw (fetched (getD (c .before .before .before .before .before .before .before .before .before .before .before .before .before .before .before .args .places .now) (c .before .before .before .before .before .before .before .before .before .loop .i - 1) (pos 0)) (c .before .before .before .before .before .before .before .kept-before-arg .given), fetched (getD (c .before .before .before .before .before .before .before .before .before .before .before .before .before .before .before .args .places .now) (c .before .before .before .before .before .before .before .before .before .loop .i) (pos 0)) (c .before .before .before .before .before .kept-before-arg2 .given)) at (c .before .before .before .kept-before .ensures))
+    filling-more _ _ _ _ _ _ _ _ _ _ _ (c .before .before .before .before .before .before .before .before .before .loop .inv) (omega arith) (rw (before-read (c .before .before .before .before .before .before .before), here-read (c .before .before .before .before .before)) at (c .before .before .before .kept-before .ensures))
     (c .before .store2 .ensures)
 
 same-length : tie.Need-same-length Inv-loop μ-loop

@@ -16,17 +16,36 @@ told-both : {x y z w : ℤ} {t : Bool} → SFits w16 x → SFits w16 y → SFits
     → t ≡ (leb (dot x) (dot y) && leb (dot z) (dot w))
 told-both hx hy hz hw e = e ∙ ap₂ (λ (a b : Bool). a && b) (told hx hy refl) (told hz hw refl)
 
+-- the three tests, said of the numbers that came
+first-told : (c : tie.After-leaves-rest)
+    → c .leaves-rest .result ≡ (leb (dot (c .before .args .above)) (dot (c .before .args .left)) && leb (dot (c .before .args .below)) (dot (c .before .args .first)))
+first-told c = told-both (c .before .fits .above) (c .before .fits .left) (c .before .fits .below) (c .before .fits .first) (c .leaves-rest .ensures)
+
+abbrev start : tie.After-leaves-rest2 → tie.Start
+start c = c .before .before .before
+
+second-told : (c : tie.After-leaves-rest2)
+    → c .leaves-rest2 .result ≡ (leb (dot (start c .args .below)) (dot (start c .args .left)) && leb (dot (start c .args .above)) (dot (start c .args .second)))
+second-told c = told-both (start c .fits .below) (start c .fits .left) (start c .fits .above) (start c .fits .second) (c .leaves-rest2 .ensures)
+
+third-told : (c : tie.After-leaves-rest3)
+    → c .leaves-rest3 .result ≡ (leb (dot (start (c .before .before) .args .above)) (dot (start (c .before .before) .args .place)) && leb (dot (start (c .before .before) .args .below)) (dot (start (c .before .before) .args .third)))
+third-told c =
+    let s = start (c .before .before) in told-both (s .fits .above) (s .fits .place) (s .fits .below) (s .fits .third) (c .leaves-rest3 .ensures)
+
 leaves-rest-requires : tie.Need-leaves-rest-requires
 leaves-rest-requires c κs = search needs
 
 returns : tie.Need-returns
 returns c =
+    let held = c .before .before .fits in
+    let one = sym (first-told (c .before)) ∙ c .if1 .taken in
     record {
-      position-is = rw ((sym (told-both (c .before .before .fits .above) (c .before .before .fits .left) (c .before .before .fits .below) (c .before .before .fits .first) (c .before .leaves-rest .ensures)) ∙ c .if1 .taken)) refl;
-      above-is = rw ((sym (told-both (c .before .before .fits .above) (c .before .before .fits .left) (c .before .before .fits .below) (c .before .before .fits .first) (c .before .leaves-rest .ensures)) ∙ c .if1 .taken), back (c .before .before .fits .place)) refl;
-      below-is = rw ((sym (told-both (c .before .before .fits .above) (c .before .before .fits .left) (c .before .before .fits .below) (c .before .before .fits .first) (c .before .leaves-rest .ensures)) ∙ c .if1 .taken), back (c .before .before .fits .below)) refl;
-      above-held = rw (back (c .before .before .fits .place)) (c .before .before .fits .place .sfits);
-      below-held = rw (back (c .before .before .fits .below)) (c .before .before .fits .below .sfits);
+      position-is = rw one refl;
+      above-is = rw (one, back (held .place)) refl;
+      below-is = rw (one, back (held .below)) refl;
+      above-held = rw (back (held .place)) (held .place .sfits);
+      below-held = rw (back (held .below)) (held .below .sfits);
     }
 
 leaves-rest-requires-2 : tie.Need-leaves-rest-requires-2
@@ -34,12 +53,15 @@ leaves-rest-requires-2 c κs = search needs
 
 returns-2 : tie.Need-returns-2
 returns-2 c =
+    let held = start (c .before) .fits in
+    let one = sym (first-told (c .before .before .before)) ∙ c .before .before .if1 .left in
+    let two = sym (second-told (c .before)) ∙ c .if2 .taken in
     record {
-      position-is = rw ((sym (told-both (c .before .before .before .before .fits .above) (c .before .before .before .before .fits .left) (c .before .before .before .before .fits .below) (c .before .before .before .before .fits .first) (c .before .before .before .leaves-rest .ensures)) ∙ c .before .before .if1 .left), (sym (told-both (c .before .before .before .before .fits .below) (c .before .before .before .before .fits .left) (c .before .before .before .before .fits .above) (c .before .before .before .before .fits .second) (c .before .leaves-rest2 .ensures)) ∙ c .if2 .taken)) refl;
-      above-is = rw ((sym (told-both (c .before .before .before .before .fits .above) (c .before .before .before .before .fits .left) (c .before .before .before .before .fits .below) (c .before .before .before .before .fits .first) (c .before .before .before .leaves-rest .ensures)) ∙ c .before .before .if1 .left), (sym (told-both (c .before .before .before .before .fits .below) (c .before .before .before .before .fits .left) (c .before .before .before .before .fits .above) (c .before .before .before .before .fits .second) (c .before .leaves-rest2 .ensures)) ∙ c .if2 .taken), back (c .before .before .before .before .fits .above)) refl;
-      below-is = rw ((sym (told-both (c .before .before .before .before .fits .above) (c .before .before .before .before .fits .left) (c .before .before .before .before .fits .below) (c .before .before .before .before .fits .first) (c .before .before .before .leaves-rest .ensures)) ∙ c .before .before .if1 .left), (sym (told-both (c .before .before .before .before .fits .below) (c .before .before .before .before .fits .left) (c .before .before .before .before .fits .above) (c .before .before .before .before .fits .second) (c .before .leaves-rest2 .ensures)) ∙ c .if2 .taken), back (c .before .before .before .before .fits .place)) refl;
-      above-held = rw (back (c .before .before .before .before .fits .above)) (c .before .before .before .before .fits .above .sfits);
-      below-held = rw (back (c .before .before .before .before .fits .place)) (c .before .before .before .before .fits .place .sfits);
+      position-is = rw (one, two) refl;
+      above-is = rw (one, two, back (held .above)) refl;
+      below-is = rw (one, two, back (held .place)) refl;
+      above-held = rw (back (held .above)) (held .above .sfits);
+      below-held = rw (back (held .place)) (held .place .sfits);
     }
 
 leaves-rest-requires-3 : tie.Need-leaves-rest-requires-3
@@ -47,22 +69,30 @@ leaves-rest-requires-3 c κs = search needs
 
 returns-3 : tie.Need-returns-3
 returns-3 c =
+    let held = start (c .before .before .before) .fits in
+    let one = sym (first-told (c .before .before .before .before .before)) ∙ c .before .before .before .before .if1 .left in
+    let two = sym (second-told (c .before .before .before)) ∙ c .before .before .if2 .left in
+    let three = sym (third-told (c .before)) ∙ c .if3 .taken in
     record {
-      position-is = rw ((sym (told-both (c .before .before .before .before .before .before .fits .above) (c .before .before .before .before .before .before .fits .left) (c .before .before .before .before .before .before .fits .below) (c .before .before .before .before .before .before .fits .first) (c .before .before .before .before .before .leaves-rest .ensures)) ∙ c .before .before .before .before .if1 .left), (sym (told-both (c .before .before .before .before .before .before .fits .below) (c .before .before .before .before .before .before .fits .left) (c .before .before .before .before .before .before .fits .above) (c .before .before .before .before .before .before .fits .second) (c .before .before .before .leaves-rest2 .ensures)) ∙ c .before .before .if2 .left), (sym (told-both (c .before .before .before .before .before .before .fits .above) (c .before .before .before .before .before .before .fits .place) (c .before .before .before .before .before .before .fits .below) (c .before .before .before .before .before .before .fits .third) (c .before .leaves-rest3 .ensures)) ∙ c .if3 .taken)) refl;
-      above-is = rw ((sym (told-both (c .before .before .before .before .before .before .fits .above) (c .before .before .before .before .before .before .fits .left) (c .before .before .before .before .before .before .fits .below) (c .before .before .before .before .before .before .fits .first) (c .before .before .before .before .before .leaves-rest .ensures)) ∙ c .before .before .before .before .if1 .left), (sym (told-both (c .before .before .before .before .before .before .fits .below) (c .before .before .before .before .before .before .fits .left) (c .before .before .before .before .before .before .fits .above) (c .before .before .before .before .before .before .fits .second) (c .before .before .before .leaves-rest2 .ensures)) ∙ c .before .before .if2 .left), (sym (told-both (c .before .before .before .before .before .before .fits .above) (c .before .before .before .before .before .before .fits .place) (c .before .before .before .before .before .before .fits .below) (c .before .before .before .before .before .before .fits .third) (c .before .leaves-rest3 .ensures)) ∙ c .if3 .taken), back (c .before .before .before .before .before .before .fits .right)) refl;
-      below-is = rw ((sym (told-both (c .before .before .before .before .before .before .fits .above) (c .before .before .before .before .before .before .fits .left) (c .before .before .before .before .before .before .fits .below) (c .before .before .before .before .before .before .fits .first) (c .before .before .before .before .before .leaves-rest .ensures)) ∙ c .before .before .before .before .if1 .left), (sym (told-both (c .before .before .before .before .before .before .fits .below) (c .before .before .before .before .before .before .fits .left) (c .before .before .before .before .before .before .fits .above) (c .before .before .before .before .before .before .fits .second) (c .before .before .before .leaves-rest2 .ensures)) ∙ c .before .before .if2 .left), (sym (told-both (c .before .before .before .before .before .before .fits .above) (c .before .before .before .before .before .before .fits .place) (c .before .before .before .before .before .before .fits .below) (c .before .before .before .before .before .before .fits .third) (c .before .leaves-rest3 .ensures)) ∙ c .if3 .taken), back (c .before .before .before .before .before .before .fits .below)) refl;
-      above-held = rw (back (c .before .before .before .before .before .before .fits .right)) (c .before .before .before .before .before .before .fits .right .sfits);
-      below-held = rw (back (c .before .before .before .before .before .before .fits .below)) (c .before .before .before .before .before .before .fits .below .sfits);
+      position-is = rw (one, two, three) refl;
+      above-is = rw (one, two, three, back (held .right)) refl;
+      below-is = rw (one, two, three, back (held .below)) refl;
+      above-held = rw (back (held .right)) (held .right .sfits);
+      below-held = rw (back (held .below)) (held .below .sfits);
     }
 
 returns-4 : tie.Need-returns-4
 returns-4 c =
+    let held = start (c .before .before .before) .fits in
+    let one = sym (first-told (c .before .before .before .before .before)) ∙ c .before .before .before .before .if1 .left in
+    let two = sym (second-told (c .before .before .before)) ∙ c .before .before .if2 .left in
+    let three = sym (third-told (c .before)) ∙ c .if3 .left in
     record {
-      position-is = rw ((sym (told-both (c .before .before .before .before .before .before .fits .above) (c .before .before .before .before .before .before .fits .left) (c .before .before .before .before .before .before .fits .below) (c .before .before .before .before .before .before .fits .first) (c .before .before .before .before .before .leaves-rest .ensures)) ∙ c .before .before .before .before .if1 .left), (sym (told-both (c .before .before .before .before .before .before .fits .below) (c .before .before .before .before .before .before .fits .left) (c .before .before .before .before .before .before .fits .above) (c .before .before .before .before .before .before .fits .second) (c .before .before .before .leaves-rest2 .ensures)) ∙ c .before .before .if2 .left), (sym (told-both (c .before .before .before .before .before .before .fits .above) (c .before .before .before .before .before .before .fits .place) (c .before .before .before .before .before .before .fits .below) (c .before .before .before .before .before .before .fits .third) (c .before .leaves-rest3 .ensures)) ∙ c .if3 .left)) refl;
-      above-is = rw ((sym (told-both (c .before .before .before .before .before .before .fits .above) (c .before .before .before .before .before .before .fits .left) (c .before .before .before .before .before .before .fits .below) (c .before .before .before .before .before .before .fits .first) (c .before .before .before .before .before .leaves-rest .ensures)) ∙ c .before .before .before .before .if1 .left), (sym (told-both (c .before .before .before .before .before .before .fits .below) (c .before .before .before .before .before .before .fits .left) (c .before .before .before .before .before .before .fits .above) (c .before .before .before .before .before .before .fits .second) (c .before .before .before .leaves-rest2 .ensures)) ∙ c .before .before .if2 .left), (sym (told-both (c .before .before .before .before .before .before .fits .above) (c .before .before .before .before .before .before .fits .place) (c .before .before .before .before .before .before .fits .below) (c .before .before .before .before .before .before .fits .third) (c .before .leaves-rest3 .ensures)) ∙ c .if3 .left), back (c .before .before .before .before .before .before .fits .above)) refl;
-      below-is = rw ((sym (told-both (c .before .before .before .before .before .before .fits .above) (c .before .before .before .before .before .before .fits .left) (c .before .before .before .before .before .before .fits .below) (c .before .before .before .before .before .before .fits .first) (c .before .before .before .before .before .leaves-rest .ensures)) ∙ c .before .before .before .before .if1 .left), (sym (told-both (c .before .before .before .before .before .before .fits .below) (c .before .before .before .before .before .before .fits .left) (c .before .before .before .before .before .before .fits .above) (c .before .before .before .before .before .before .fits .second) (c .before .before .before .leaves-rest2 .ensures)) ∙ c .before .before .if2 .left), (sym (told-both (c .before .before .before .before .before .before .fits .above) (c .before .before .before .before .before .before .fits .place) (c .before .before .before .before .before .before .fits .below) (c .before .before .before .before .before .before .fits .third) (c .before .leaves-rest3 .ensures)) ∙ c .if3 .left), back (c .before .before .before .before .before .before .fits .right)) refl;
-      above-held = rw (back (c .before .before .before .before .before .before .fits .above)) (c .before .before .before .before .before .before .fits .above .sfits);
-      below-held = rw (back (c .before .before .before .before .before .before .fits .right)) (c .before .before .before .before .before .before .fits .right .sfits);
+      position-is = rw (one, two, three) refl;
+      above-is = rw (one, two, three, back (held .above)) refl;
+      below-is = rw (one, two, three, back (held .right)) refl;
+      above-held = rw (back (held .above)) (held .above .sfits);
+      below-held = rw (back (held .right)) (held .right .sfits);
     }
 
 pub step-spec : {M : Type 1} → statement M

@@ -1,11 +1,13 @@
 -- `full::walk::walk` meets its contract: the numbers written so far and the walk from the current mark on are the whole walk.
-use mathlib.Core.Path.{_≡_, refl, sym, _∙_, ap}
+use mathlib.Core.Path.{_≡_}
+use mathlib.Core.Bool.{true}
 use Prim.Native.Nat.{ℕ, _-_, _+_, _*_}
 use native.Mathlib.Omega.{arith}
 use borrow.Author.Needs.{needs}
-use lib.IntN.{pos}
+use lib.IntN.{ℤ, pos}
+use mir.Syntax.{w16}
+use mir.Val.{toZ, ofZ}
 use lib.ListN.{length, getD}
-use Rattle.geometry.specs.Dot.{dot}
 use Rattle.geometry.specs.Mark.{placeInRange}
 use Rattle.geometry.proofs.Dots.{fetched, range-dots}
 use Rattle.geometry.proofs.Accepted.{every-at}
@@ -25,6 +27,25 @@ Inv-loop places lengths work positions₀ at₀ i₀ positions at i = Walking pl
 abbrev μ-loop : tie.MeasureT-loop
 μ-loop places lengths work positions₀ at₀ i₀ positions at i = length places - i
 
+-- the current mark's place and its row, once the place is read
+abbrev start : tie.After-place Inv-loop μ-loop → tie.Start Inv-loop μ-loop
+start p = p .before .before .before .before .before
+
+abbrev index : tie.After-place Inv-loop μ-loop → ℕ
+index p = p .before .before .loop .i
+
+abbrev placeAt : tie.After-place Inv-loop μ-loop → ℤ
+placeAt p = getD (start p .args .places .now) (index p) (pos 0)
+
+abbrev cellAt : tie.After-place Inv-loop μ-loop → ℕ → ℤ
+cellAt p n = getD (start p .args .work .now) n (pos 0)
+
+placed : (p : tie.After-place Inv-loop μ-loop) → placeInRange (placeAt p) ≡ true
+placed p = every-at placeInRange (start p .args .places .now) (pos 0) (index p) (p .before .before .loop .inv .ready .ready .places-good) (p .before .loop-test .taken)
+
+fetched-place : (p : tie.After-place Inv-loop μ-loop) → toZ w16 (ofZ w16 (placeAt p)) ≡ placeAt p
+fetched-place p = fetched (placeAt p) (p .place .given)
+
 loop-holds : tie.Need-loop-holds Inv-loop μ-loop
 loop-holds c = walking-start _ _ _ _ (c .before .before .pre)
 
@@ -41,13 +62,13 @@ shared-slice-read-left-end : tie.Need-shared-slice-read-left-end Inv-loop μ-loo
 shared-slice-read-left-end c = omega arith
 
 left-end-requires : tie.Need-left-end-requires Inv-loop μ-loop
-left-end-requires c κs = rw (fetched (getD (c .before .before .before .before .before .before .args .places .now) (c .before .before .before .loop .i) (pos 0)) (c .before .place .given)) (every-at placeInRange _ (pos 0) (c .before .before .before .loop .i) (c .before .before .before .loop .inv .ready .ready .places-good) (c .before .before .loop-test .taken))
+left-end-requires c κs = rw (fetched-place (c .before)) (placed (c .before))
 
 shared-slice-read-right-end : tie.Need-shared-slice-read-right-end Inv-loop μ-loop
 shared-slice-read-right-end c = omega arith
 
 right-end-requires : tie.Need-right-end-requires Inv-loop μ-loop
-right-end-requires c κs = rw (fetched (getD (c .before .before .before .before .before .before .before .before .args .places .now) (c .before .before .before .before .before .loop .i) (pos 0)) (c .before .before .before .place .given)) (every-at placeInRange _ (pos 0) (c .before .before .before .before .before .loop .i) (c .before .before .before .before .before .loop .inv .ready .ready .places-good) (c .before .before .before .before .loop-test .taken))
+right-end-requires c κs = rw (fetched-place (c .before .before .before)) (placed (c .before .before .before))
 
 mul-step : tie.Need-mul-step Inv-loop μ-loop
 mul-step c = omega arith
@@ -87,23 +108,24 @@ loop-less c = omega arith
 
 loop-again : tie.Need-loop-again Inv-loop μ-loop
 loop-again c =
-    let w = c .before .before .before .before .before .before .before .before .before .before .before .before .loop .inv in
-    walking-more _ _ _ _ _ _ _ _ w (c .before .before .before .before .before .before .before .before .before .before .before .loop-test .taken) (c .before .before .before .before .before .before .before .before .left-end .result) (c .before .before .before .before .before .before .right-end .result)
-    (rw (fetched (getD (c .before .before .before .before .before .before .before .before .before .before .before .before .before .before .before .args .places .now) (c .before .before .before .before .before .before .before .before .before .before .before .before .loop .i) (pos 0)) (c .before .before .before .before .before .before .before .before .before .before .place .given)) at (c .before .before .before .before .before .before .before .before .left-end .ensures))
-    (rw (fetched (getD (c .before .before .before .before .before .before .before .before .before .before .before .before .before .before .before .args .places .now) (c .before .before .before .before .before .before .before .before .before .before .before .before .loop .i) (pos 0)) (c .before .before .before .before .before .before .before .before .before .before .place .given)) at (c .before .before .before .before .before .before .right-end .ensures))
+    let p : tie.After-place Inv-loop μ-loop = c .before .before .before .before .before .before .before .before .before .before in
+    let w = p .before .before .loop .inv in
+    let l = c .before .before .before .before .before .before .before .before .left-end in
+    let r = c .before .before .before .before .before .before .right-end in
+    walking-more _ _ _ _ _ _ _ _ w (p .before .loop-test .taken) (l .result) (r .result) (rw (fetched-place p) at (l .ensures)) (rw (fetched-place p) at (r .ensures))
     (c .step .result .position) (c .step .result .above) (c .step .result .below)
     (rw (
-      fetched (c .before .before .before .before .before .before .before .before .before .before .before .before .loop .at .above) (w .above-held),
-      fetched (c .before .before .before .before .before .before .before .before .before .before .before .before .loop .at .below) (w .below-held),
-      fetched (getD (c .before .before .before .before .before .before .before .before .before .before .before .before .before .before .before .args .places .now) (c .before .before .before .before .before .before .before .before .before .before .before .before .loop .i) (pos 0)) (c .before .before .before .before .before .before .before .before .before .before .place .given),
-      fetched (c .before .before .before .before .before .before .before .before .left-end .result) (c .before .before .before .before .before .before .before .before .left-end .ok),
-      fetched (c .before .before .before .before .before .before .right-end .result) (c .before .before .before .before .before .before .right-end .ok),
-      fetched (getD (c .before .before .before .before .before .before .before .before .before .before .before .before .before .before .before .args .work .now) (4 * c .before .before .before .before .before .before .before .before .before .before .before .before .loop .i) (pos 0)) (c .before .before .before .before .before .step-arg .given),
-      fetched (getD (c .before .before .before .before .before .before .before .before .before .before .before .before .before .before .before .args .work .now) (4 * c .before .before .before .before .before .before .before .before .before .before .before .before .loop .i + 1) (pos 0)) (c .before .before .before .before .step-arg2 .given),
-      fetched (getD (c .before .before .before .before .before .before .before .before .before .before .before .before .before .before .before .args .work .now) (4 * c .before .before .before .before .before .before .before .before .before .before .before .before .loop .i + 2) (pos 0)) (c .before .before .before .step-arg3 .given),
+      fetched (p .before .before .loop .at .above) (w .above-held),
+      fetched (p .before .before .loop .at .below) (w .below-held),
+      fetched-place p,
+      fetched (l .result) (l .ok),
+      fetched (r .result) (r .ok),
+      fetched (cellAt p (4 * index p)) (c .before .before .before .before .before .step-arg .given),
+      fetched (cellAt p (4 * index p + 1)) (c .before .before .before .before .step-arg2 .given),
+      fetched (cellAt p (4 * index p + 2)) (c .before .before .before .step-arg3 .given),
     )
     at (c .step .ensures))
-    (omega (arith, range-dots (getD (c .before .before .before .before .before .before .before .before .before .before .before .before .before .before .before .args .places .now) (c .before .before .before .before .before .before .before .before .before .before .before .before .loop .i) (pos 0)) (every-at placeInRange _ (pos 0) (c .before .before .before .before .before .before .before .before .before .before .before .before .loop .i) (w .ready .ready .places-good) (c .before .before .before .before .before .before .before .before .before .before .before .loop-test .taken))))
+    (omega (arith, range-dots (placeAt p) (placed p)))
 
 same-length : tie.Need-same-length Inv-loop μ-loop
 same-length c = c .before .loop .inv .long

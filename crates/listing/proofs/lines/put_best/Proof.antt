@@ -1,7 +1,7 @@
 -- `listing::lines::put_best` meets its contract: the pieces one behind the other, by what the best pass says.
-use mathlib.Core.Path.{_≡_, refl, sym, _∙_}
+use mathlib.Core.Path.{_≡_, refl}
 use mathlib.Core.List.{List}
-use Prim.Native.Nat.{ℕ, min, _≤_}
+use Prim.Native.Nat.{ℕ, min}
 use native.Mathlib.Omega.{arith}
 use native.Mathlib.Nat.{le-refl}
 use lib.IntN.{ℤ}
@@ -9,8 +9,7 @@ use lib.ListN.{length}
 use Rattle.geometry.specs.Refusal.{accepted}
 use Rattle.geometry.specs.Pass.{passVerdict}
 use Rattle.geometry.proofs.Accepted.{entry-accepted}
-use Rattle.best.specs.Best.{lent}
-use Rattle.listing.proofs.Append.{sums-short}
+use Rattle.best.specs.Best.{Lent, lent}
 use Rattle.listing.proofs.Passes.{zeros, accept-zeros}
 use Rattle.listing.proofs.BestPass.{count-within, best-lines}
 use borrow.Author.Needs.{needs}
@@ -23,21 +22,24 @@ use Rattle.listing.proofs.lines.put_out.Reads as put-out-reads
 use Rattle.listing.proofs.lines.put_sums.Reads as put-sums-reads
 use Rattle.listing.proofs.lines.total_weight.Reads as total-weight-reads
 
--- the strip
-abbrev Z : tie.Start → List ℤ
-Z s = s .args .places .now
+-- from where the pass has answered: the start, its strip and the lent lists
+abbrev start : tie.After-best → tie.Start
+start f = f .before .before .before .before .before .before .before
 
-abbrev L : tie.Start → List ℕ
-L s = s .args .lengths .now
+abbrev Z : tie.After-best → List ℤ
+Z f = start f .args .places .now
 
-abbrev W : tie.Start → List ℕ
-W s = s .args .weights .now
+abbrev L : tie.After-best → List ℕ
+L f = start f .args .lengths .now
 
-passed : (s : tie.Start) → passVerdict 60 (Z s) (L s) (W s) (min (length (zeros 60)) (length (zeros 60))) 15000 (length (zeros 15000)) ≡ accepted
-passed s = accept-zeros {A = ℕ} 60 (Z s) (L s) (W s) (min (length (zeros 60)) (length (zeros 60))) 60 15000 0 (s .pre .strip) (le-refl 60) refl
+abbrev W : tie.After-best → List ℕ
+W f = start f .args .weights .now
 
-few-weights : (s : tie.Start) → length (W s) ≤ 60
-few-weights s = let a = entry-accepted 60 (Z s) (L s) (W s) (s .pre .strip) in omega (arith, a .few, a .same-weights)
+abbrev after : tie.After-best → Lent
+after f = lent (f .best .last .1 .1 .1 .0) (f .best .last .1 .1 .1 .1 .0) (f .best .last .1 .1 .1 .1 .1 .0)
+
+passed : (f : tie.After-best) → passVerdict 60 (Z f) (L f) (W f) (min (length (zeros 60)) (length (zeros 60))) 15000 (length (zeros 15000)) ≡ accepted
+passed f = accept-zeros {A = ℕ} 60 (Z f) (L f) (W f) (min (length (zeros 60)) (length (zeros 60))) 60 15000 0 (start f .pre .strip) (le-refl 60) refl
 
 slice-aggregate-best : tie.Need-slice-aggregate-best
 slice-aggregate-best c = search needs
@@ -52,7 +54,9 @@ best-requires : tie.Need-best-requires
 best-requires c κs = search needs
 
 total-weight-requires : tie.Need-total-weight-requires
-total-weight-requires c κs = few-weights (c .before .before .before .before .before .before .before .before .before .before .before)
+total-weight-requires c κs =
+    let s = c .before .before .before .before .before .before .before .before .before .before .before in
+    let a = entry-accepted 60 (s .args .places .now) (s .args .lengths .now) (s .args .weights .now) (s .pre .strip) in omega (arith, a .few, a .same-weights)
 
 put-sums-requires : tie.Need-put-sums-requires
 put-sums-requires c κs = search needs
@@ -62,20 +66,19 @@ slice-aggregate-put-out c = search needs
 
 put-out-requires : tie.Need-put-out-requires
 put-out-requires c κs =
-    let within = count-within (Z (c .before .before .before .before .before .before .before .before .before .before .before .before .before .before .before .before .before)) (L (c .before .before .before .before .before .before .before .before .before .before .before .before .before .before .before .before .before)) (W (c .before .before .before .before .before .before .before .before .before .before .before .before .before .before .before .before .before)) (lent (zeros 60) (zeros 60) (zeros 15000)) (lent (c .before .before .before .before .before .before .before .before .before .before .best .last .1 .1 .1 .0) (c .before .before .before .before .before .before .before .before .before .before .best .last .1 .1 .1 .1 .0) (c .before .before .before .before .before .before .before .before .before .before .best .last .1 .1 .1 .1 .1 .0)) (c .before .before .before .before .before .before .before .before .before .before .best .result) (c .before .before .before .before .before .before .before .before .before .before .best .ensures) (passed (c .before .before .before .before .before .before .before .before .before .before .before .before .before .before .before .before .before)) in
-    let long : length (c .before .before .before .before .before .before .before .before .before .before .best .last .1 .1 .1 .1 .0) ≡ 60 = c .before .before .before .before .before .before .before .before .before .before .best .kept .1 .1 .1 .1 .0 in
-    let roomy = c .before .before .before .before .before .before .before .before .before .before .before .before .before .before .before .before .before .pre .roomy in (
-      omega arith,
-      omega arith,
-      omega (arith, c .before .before .before .before .put-sums .ensures .next-is, c .before .before .before .before .put-sums .kept .0, sums-short (c .before .before .before .before .before .before .before .before .before .before .best .result .sum) (c .before .before .before .before .before .total-weight .result)),
-    )
+    let f : tie.After-best = c .before .before .before .before .before .before .before .before .before .before in
+    let within = count-within (Z f) (L f) (W f) (lent (zeros 60) (zeros 60) (zeros 15000)) (after f) (f .best .result) (f .best .ensures) (passed f) in
+    let long : length (after f .left-out) ≡ 60 = f .best .kept .1 .1 .1 .1 .0 in
+    let roomy = start f .pre .roomy in
+    (omega arith, omega arith, omega (arith, c .before .before .before .before .put-sums .ensures .1, c .before .before .before .before .put-sums .kept .0))
 
 same-length : tie.Need-same-length
 same-length c = search needs
 
 returns : tie.Need-returns
 returns c =
-    best-lines (Z (c .before .before .before .before .before .before .before .before .before .before .before .before .before .before .before .before .before .before .before .before)) (L (c .before .before .before .before .before .before .before .before .before .before .before .before .before .before .before .before .before .before .before .before)) (W (c .before .before .before .before .before .before .before .before .before .before .before .before .before .before .before .before .before .before .before .before)) (lent (zeros 60) (zeros 60) (zeros 15000)) (lent (c .before .before .before .before .before .before .before .before .before .before .before .before .before .best .last .1 .1 .1 .0) (c .before .before .before .before .before .before .before .before .before .before .before .before .before .best .last .1 .1 .1 .1 .0) (c .before .before .before .before .before .before .before .before .before .before .before .before .before .best .last .1 .1 .1 .1 .1 .0)) (c .before .before .before .before .before .before .before .before .before .before .before .before .before .best .result) (c .before .before .before .before .before .before .before .before .before .before .before .before .before .best .ensures) (passed (c .before .before .before .before .before .before .before .before .before .before .before .before .before .before .before .before .before .before .before .before)) _ _ _ _ _ _ (c .before .before .before .before .before .before .before .before .total-weight .result) (c .before .before .before .before .before .before .before .before .total-weight .ensures) (c .before .before .before .before .before .before .before .put-sums .ensures) (c .before .before .put-out .ensures)
+    let f : tie.After-best = c .before .before .before .before .before .before .before .before .before .before .before .before .before in
+    best-lines (Z f) (L f) (W f) (lent (zeros 60) (zeros 60) (zeros 15000)) (after f) (f .best .result) (f .best .ensures) (passed f) _ _ _ _ _ _ (c .before .before .before .before .before .before .before .before .total-weight .result) (c .before .before .before .before .before .before .before .before .total-weight .ensures) (c .before .before .before .before .before .before .before .put-sums .ensures .0) (c .before .before .put-out .ensures)
 
 pub put-best-spec : {M : Type 1} → statement M
 put-best-spec =

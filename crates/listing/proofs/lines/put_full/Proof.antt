@@ -62,7 +62,7 @@ same-length c = search needs
 returns : tie.Need-returns
 returns c =
     let f : tie.After-full = c .before .before .before .before .before .before .before .before in
-    appended-is (c .before .before .put-word .ensures) (full-none (Z f) (L f) (W f) (zeros 4000) (replicate 20000 (pos 0)) (f .full .result) (P f) (f .full .last .1 .1 .1 .1 .0) (f .full .ensures) (passed f) (c .before .before .before .before .before .if1 .taken))
+    (appended-is (c .before .before .put-word .ensures) (full-none (Z f) (L f) (W f) (zeros 4000) (replicate 20000 (pos 0)) (f .full .result) (P f) (f .full .last .1 .1 .1 .1 .0) (f .full .ensures) (passed f) (c .before .before .before .before .before .if1 .taken)), omega (arith, c .before .before .put-word .ensures .next-is))
 
 slice-aggregate-put-placing : tie.Need-slice-aggregate-put-placing
 slice-aggregate-put-placing c = search needs
@@ -79,7 +79,8 @@ same-length-2 c = search needs
 returns-2 : tie.Need-returns-2
 returns-2 c =
     let f : tie.After-full = c .before .before .before .before .before .before .before .before in
-    appended-is (c .before .before .put-placing .ensures) (full-some (Z f) (L f) (W f) (zeros 4000) (replicate 20000 (pos 0)) (f .full .result) (P f) (f .full .last .1 .1 .1 .1 .0) (f .full .ensures) (passed f) (start f .pre .strip) (c .before .before .before .before .before .if1 .left))
+    let few = fewest f in
+    (appended-is (c .before .before .put-placing .ensures .0) (full-some (Z f) (L f) (W f) (zeros 4000) (replicate 20000 (pos 0)) (f .full .result) (P f) (f .full .last .1 .1 .1 .1 .0) (f .full .ensures) (passed f) (start f .pre .strip) (c .before .before .before .before .before .if1 .left)), omega (arith, c .before .before .put-placing .ensures .1))
 
 pub put-full-spec : {M : Type 1} → statement M
 put-full-spec =

@@ -4,7 +4,7 @@ use Prim.Native.Nat.{ℕ}
 use native.Mathlib.Omega.{arith}
 use lib.ListN.{take}
 use Rattle.listing.specs.Text.{outLine}
-use Rattle.listing.proofs.Append.{appended-join, spaced-short}
+use Rattle.listing.proofs.Append.{appended-join}
 use Rattle.listing.proofs.Passes.{appended-is, out-some}
 use borrow.Author.Needs.{needs}
 use Rattle.listing.proofs.lines.put_out.Statement.{statement}
@@ -39,15 +39,14 @@ slice-aggregate-put-word-3 : tie.Need-slice-aggregate-put-word-3
 slice-aggregate-put-word-3 c = search needs
 
 put-word-requires-3 : tie.Need-put-word-requires-3
-put-word-requires-3 c κs =
-    omega (arith, c .before .before .before .before .put-marks .ensures .next-is, c .before .before .before .before .put-marks .kept .0, spaced-short (c .before .before .before .before .before .before .before .before .before .before .before .before .before .before .args .count) (c .before .before .before .before .before .before .before .before .before .before .before .before .before .before .args .left-out .now), c .before .before .before .before .before .before .before .before .put-word2 .ensures .next-is, c .before .before .before .before .before .before .before .before .put-word2 .kept .0)
+put-word-requires-3 c κs = search needs
 
 same-length-2 : tie.Need-same-length-2
 same-length-2 c = search needs
 
 returns-2 : tie.Need-returns-2
 returns-2 c =
-    appended-is (appended-join (appended-join (c .before .before .before .before .before .before .before .before .before .before .before .put-word2 .ensures) (c .before .before .before .before .before .before .before .put-marks .ensures)) (c .before .before .put-word3 .ensures))
+    appended-is (appended-join (appended-join (c .before .before .before .before .before .before .before .before .before .before .before .put-word2 .ensures) (c .before .before .before .before .before .before .before .put-marks .ensures .0)) (c .before .before .put-word3 .ensures))
     (out-some (c .before .before .before .before .before .before .before .before .before .before .before .before .before .before .before .before .before .args .count) (c .before .before .before .before .before .before .before .before .before .before .before .before .before .before .before .before .before .args .left-out .now) (omega arith) (c .before .before .before .before .before .before .before .before .before .before .before .before .before .before .if1 .left))
 
 pub put-out-spec : {M : Type 1} → statement M

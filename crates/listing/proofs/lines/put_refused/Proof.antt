@@ -1,6 +1,5 @@
 -- `listing::lines::put_refused` meets its contract: the pieces one behind the other.
-use native.Mathlib.Omega.{arith}
-use Rattle.listing.proofs.Append.{appended-join, number-short}
+use Rattle.listing.proofs.Append.{appended-join}
 use borrow.Author.Needs.{needs}
 use Rattle.listing.proofs.lines.put_refused.Statement.{statement}
 use Rattle.listing.proofs.lines.put_refused.Tie as tie
@@ -22,14 +21,13 @@ slice-aggregate-put-word-2 : tie.Need-slice-aggregate-put-word-2
 slice-aggregate-put-word-2 c = search needs
 
 put-word-requires-2 : tie.Need-put-word-requires-2
-put-word-requires-2 c κs =
-    omega (arith, c .before .before .before .before .put-number .ensures .next-is, c .before .before .before .before .put-number .kept .0, number-short (c .before .before .before .before .before .before .before .before .before .before .before .before .args .number), c .before .before .before .before .before .before .before .before .put-word .ensures .next-is, c .before .before .before .before .before .before .before .before .put-word .kept .0)
+put-word-requires-2 c κs = search needs
 
 same-length : tie.Need-same-length
 same-length c = search needs
 
 returns : tie.Need-returns
-returns c = appended-join (appended-join (c .before .before .before .before .before .before .before .before .before .before .before .put-word .ensures) (c .before .before .before .before .before .before .before .put-number .ensures)) (c .before .before .put-word2 .ensures)
+returns c = appended-join (appended-join (c .before .before .before .before .before .before .before .before .before .before .before .put-word .ensures) (c .before .before .before .before .before .before .before .put-number .ensures .0)) (c .before .before .put-word2 .ensures)
 
 pub put-refused-spec : {M : Type 1} → statement M
 put-refused-spec =

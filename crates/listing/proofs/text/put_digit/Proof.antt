@@ -1,4 +1,5 @@
 -- `listing::text::put_digit` meets its contract: a number below the power has no digit there.
+use native.Mathlib.Omega.{arith}
 use borrow.Author.Tests.{le-leb, lt-leb}
 use Rattle.listing.proofs.Append.{appended-none}
 use borrow.Author.Needs.{needs}
@@ -9,7 +10,7 @@ use Rattle.listing.proofs.text.put_digit.Lts as lts
 use Rattle.listing.proofs.text.put_byte.Reads as put-byte-reads
 
 returns : tie.Need-returns
-returns c = rw (lt-leb _ _ (c .if1 .taken)) (appended-none (c .before .before .args .buffer .now) (c .before .before .args .at))
+returns c = (rw (lt-leb _ _ (c .if1 .taken)) (appended-none (c .before .before .args .buffer .now) (c .before .before .args .at)), omega arith)
 
 div-put-byte : tie.Need-div-put-byte
 div-put-byte c = search needs
@@ -27,7 +28,7 @@ same-length : tie.Need-same-length
 same-length c = search needs
 
 returns-2 : tie.Need-returns-2
-returns-2 c = rw (le-leb _ _ (c .before .before .before .before .if1 .left)) (c .before .before .put-byte .ensures)
+returns-2 c = (rw (le-leb _ _ (c .before .before .before .before .if1 .left)) (c .before .before .put-byte .ensures), omega (arith, c .before .before .put-byte .ensures .next-is))
 
 pub put-digit-spec : {M : Type 1} → statement M
 put-digit-spec =

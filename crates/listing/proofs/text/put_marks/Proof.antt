@@ -36,13 +36,16 @@ loop-less : tie.Need-loop-less Inv-loop μ-loop
 loop-less c = omega arith
 
 loop-again : tie.Need-loop-again Inv-loop μ-loop
-loop-again c = spacing-more _ _ _ _ _ _ _ _ _ (c .before .before .before .before .before .before .loop .inv) (c .before .before .before .before .before .loop-test .taken) (c .before .before .put-spaced .ensures) (c .before .before .put-spaced .kept .0)
+loop-again c = spacing-more _ _ _ _ _ _ _ _ _ (c .before .before .before .before .before .before .loop .inv) (c .before .before .before .before .before .loop-test .taken) (c .before .before .put-spaced .ensures .0) (c .before .before .put-spaced .ensures .1) (c .before .before .put-spaced .kept .0)
 
 same-length : tie.Need-same-length Inv-loop μ-loop
 same-length c = c .before .loop .inv .same-length
 
 returns : tie.Need-returns Inv-loop μ-loop
-returns c = spacing-done _ _ _ _ _ _ _ (c .before .loop .inv) (c .loop-test .left)
+returns c =
+    let s = c .before .loop .inv in
+    let some = s .some in
+    let within = s .within in (spacing-done _ _ _ _ _ _ _ s (c .loop-test .left), omega arith)
 
 pub put-marks-spec : {M : Type 1} → statement M
 put-marks-spec =

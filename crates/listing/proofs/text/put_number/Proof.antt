@@ -1,7 +1,7 @@
 -- `listing::text::put_number` meets its contract: the digits one behind the other.
 use native.Mathlib.Omega.{arith}
 use Rattle.listing.specs.Text.{decimal}
-use Rattle.listing.proofs.Append.{digit-short, appended-join}
+use Rattle.listing.proofs.Append.{appended-join}
 use borrow.Author.Needs.{needs}
 use Rattle.listing.proofs.text.put_number.Statement.{statement}
 use Rattle.listing.proofs.text.put_number.Tie as tie
@@ -14,17 +14,13 @@ put-digit-requires : tie.Need-put-digit-requires
 put-digit-requires c κs = search needs
 
 put-digit-requires-2 : tie.Need-put-digit-requires-2
-put-digit-requires-2 c κs = omega (arith, c .before .before .before .put-digit .ensures .next-is, c .before .before .before .put-digit .kept .0, digit-short 10000 (c .before .before .before .before .before .before .args .number))
+put-digit-requires-2 c κs = search needs
 
 put-digit-requires-3 : tie.Need-put-digit-requires-3
-put-digit-requires-3 c κs =
-    omega
-    (arith, c .before .before .before .put-digit2 .ensures .next-is, c .before .before .before .put-digit2 .kept .0, digit-short 1000 (c .before .before .before .before .before .before .before .before .before .before .args .number), c .before .before .before .before .before .before .before .put-digit .ensures .next-is, c .before .before .before .before .before .before .before .put-digit .kept .0, digit-short 10000 (c .before .before .before .before .before .before .before .before .before .before .args .number))
+put-digit-requires-3 c κs = search needs
 
 put-digit-requires-4 : tie.Need-put-digit-requires-4
-put-digit-requires-4 c κs =
-    omega
-    (arith, c .before .before .before .put-digit3 .ensures .next-is, c .before .before .before .put-digit3 .kept .0, digit-short 100 (c .before .before .before .before .before .before .before .before .before .before .before .before .before .before .args .number), c .before .before .before .before .before .before .before .put-digit2 .ensures .next-is, c .before .before .before .before .before .before .before .put-digit2 .kept .0, digit-short 1000 (c .before .before .before .before .before .before .before .before .before .before .before .before .before .before .args .number), c .before .before .before .before .before .before .before .before .before .before .before .put-digit .ensures .next-is, c .before .before .before .before .before .before .before .before .before .before .before .put-digit .kept .0, digit-short 10000 (c .before .before .before .before .before .before .before .before .before .before .before .before .before .before .args .number))
+put-digit-requires-4 c κs = search needs
 
 cast-put-byte : tie.Need-cast-put-byte
 cast-put-byte c = search needs
@@ -33,9 +29,7 @@ add-put-byte : tie.Need-add-put-byte
 add-put-byte c = search needs
 
 put-byte-requires : tie.Need-put-byte-requires
-put-byte-requires c κs =
-    omega
-    (arith, c .before .before .before .put-digit4 .ensures .next-is, c .before .before .before .put-digit4 .kept .0, digit-short 10 (c .before .before .before .before .before .before .before .before .before .before .before .before .before .before .before .before .before .before .args .number), c .before .before .before .before .before .before .before .put-digit3 .ensures .next-is, c .before .before .before .before .before .before .before .put-digit3 .kept .0, digit-short 100 (c .before .before .before .before .before .before .before .before .before .before .before .before .before .before .before .before .before .before .args .number), c .before .before .before .before .before .before .before .before .before .before .before .put-digit2 .ensures .next-is, c .before .before .before .before .before .before .before .before .before .before .before .put-digit2 .kept .0, digit-short 1000 (c .before .before .before .before .before .before .before .before .before .before .before .before .before .before .before .before .before .before .args .number), c .before .before .before .before .before .before .before .before .before .before .before .before .before .before .before .put-digit .ensures .next-is, c .before .before .before .before .before .before .before .before .before .before .before .before .before .before .before .put-digit .kept .0, digit-short 10000 (c .before .before .before .before .before .before .before .before .before .before .before .before .before .before .before .before .before .before .args .number))
+put-byte-requires c κs = search needs
 
 same-length : tie.Need-same-length
 same-length c = search needs
@@ -43,7 +37,14 @@ same-length c = search needs
 returns : tie.Need-returns
 unfolding decimal
 returns c =
-    appended-join (appended-join (appended-join (appended-join (c .before .before .before .before .before .before .before .before .before .before .before .before .before .before .before .before .before .before .put-digit .ensures) (c .before .before .before .before .before .before .before .before .before .before .before .before .before .before .put-digit2 .ensures)) (c .before .before .before .before .before .before .before .before .before .before .put-digit3 .ensures)) (c .before .before .before .before .before .before .put-digit4 .ensures)) (c .before .before .put-byte .ensures)
+    let first = c .before .before .before .before .before .before .before .before .before .before .before .before .before .before .before .before .before .before .put-digit in
+    let second = c .before .before .before .before .before .before .before .before .before .before .before .before .before .before .put-digit2 in
+    let third = c .before .before .before .before .before .before .before .before .before .before .put-digit3 in
+    let fourth = c .before .before .before .before .before .before .put-digit4 in
+    let last = c .before .before .put-byte in (
+      appended-join (appended-join (appended-join (appended-join (first .ensures .0) (second .ensures .0)) (third .ensures .0)) (fourth .ensures .0)) (last .ensures),
+      omega (arith, first .ensures .1, second .ensures .1, third .ensures .1, fourth .ensures .1, last .ensures .next-is),
+    )
 
 pub put-number-spec : {M : Type 1} → statement M
 put-number-spec =

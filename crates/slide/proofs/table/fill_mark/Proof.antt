@@ -12,11 +12,16 @@ use Rattle.slide.proofs.table.fill_mark.Statement.{statement}
 use Rattle.slide.proofs.table.fill_mark.Tie as tie
 
 -- the dots of the two places that were read
-first-dot : (c : tie.After-dot-of) → c .dot-of .result ≡ dot (getD (c .before .before .before .before .before .before .args .places .now) (c .before .before .before .before .before .before .args .k) (pos 0))
-first-dot c = c .dot-of .ensures ∙ ap dot (fetched (getD (c .before .before .before .before .before .before .args .places .now) (c .before .before .before .before .before .before .args .k) (pos 0)) (c .before .dot-of-arg .given))
+abbrev start : tie.After-dot-of → tie.Start
+start c = c .before .before .before .before .before .before
 
-second-dot : (c : tie.After-dot-of2) → c .dot-of2 .result ≡ dot (getD (c .before .before .before .before .before .before .before .before .before .args .places .now) (c .before .before .before .before .before .before .before .before .before .args .k + 1) (pos 0))
-second-dot c = c .dot-of2 .ensures ∙ ap dot (fetched (getD (c .before .before .before .before .before .before .before .before .before .args .places .now) (c .before .before .before .before .before .before .before .before .before .args .k + 1) (pos 0)) (c .before .dot-of-arg2 .given))
+first-dot : (c : tie.After-dot-of) → c .dot-of .result ≡ dot (getD (start c .args .places .now) (start c .args .k) (pos 0))
+first-dot c = c .dot-of .ensures ∙ ap dot (fetched (getD (start c .args .places .now) (start c .args .k) (pos 0)) (c .before .dot-of-arg .given))
+
+second-dot : (c : tie.After-dot-of2) → c .dot-of2 .result ≡ dot (getD (start (c .before .before .before) .args .places .now) (start (c .before .before .before) .args .k + 1) (pos 0))
+second-dot c =
+    let s = start (c .before .before .before) in
+    c .dot-of2 .ensures ∙ ap dot (fetched (getD (s .args .places .now) (s .args .k + 1) (pos 0)) (c .before .dot-of-arg2 .given))
 
 mul-row : tie.Need-mul-row
 mul-row c = search needs
@@ -28,7 +33,9 @@ shared-slice-read-fill-last : tie.Need-shared-slice-read-fill-last
 shared-slice-read-fill-last c = search needs
 
 fill-last-requires : tie.Need-fill-last-requires
-fill-last-requires c κs = let small = label-range _ _ (c .before .before .before .before .before .pre .0) _ (c .before .before .before .before .before .pre .1) in omega (arith, c .before .before .before .before .before .pre .0 .few)
+fill-last-requires c κs =
+    let checked = c .before .before .before .before .before .pre .0 in
+    let small = label-range _ _ checked _ (c .before .before .before .before .before .pre .1) in omega (arith, checked .few)
 
 same-length : tie.Need-same-length
 same-length c = search needs
@@ -68,15 +75,19 @@ shared-slice-read-fill-row-2 c = search needs
 
 fill-row-requires : tie.Need-fill-row-requires
 fill-row-requires c κs =
-    let k : ℕ = c .before .before .before .before .before .before .before .before .before .before .args .k in
-    omega
-    (arith, c .before .before .before .before .before .before .before .before .before .before .pre .0 .few, first-dot (c .before .before .before .before), second-dot (c .before), dot-range _ _ (c .before .before .before .before .before .before .before .before .before .before .pre .0) k (c .before .before .before .before .before .before .before .before .before .before .pre .1), label-range _ _ (c .before .before .before .before .before .before .before .before .before .before .pre .0) k (c .before .before .before .before .before .before .before .before .before .before .pre .1), dot-range _ _ (c .before .before .before .before .before .before .before .before .before .before .pre .0) (k + 1) (omega arith), label-range _ _ (c .before .before .before .before .before .before .before .before .before .before .pre .0) (k + 1) (omega arith))
+    let s : tie.Start = start (c .before .before .before .before) in
+    let checked = s .pre .0 in
+    let k : ℕ = s .args .k in
+    omega (arith, checked .few, first-dot (c .before .before .before .before), second-dot (c .before), dot-range _ _ checked k (s .pre .1), label-range _ _ checked k (s .pre .1), dot-range _ _ checked (k + 1) (omega arith), label-range _ _ checked (k + 1) (omega arith))
 
 same-length-2 : tie.Need-same-length-2
 same-length-2 c = search needs
 
 returns-2 : tie.Need-returns-2
-returns-2 c = table-row-more _ _ (c .before .before .before .before .before .before .before .before .before .before .before .before .before .pre .0) _ _ _ _ _ (first-dot (c .before .before .before .before .before .before .before)) (second-dot (c .before .before .before .before)) (omega arith) (c .before .before .before .before .before .before .before .before .before .before .before .before .before .pre .3) (c .before .before .fill-row .ensures)
+returns-2 c =
+    let first : tie.After-dot-of = c .before .before .before .before .before .before .before in
+    let s = start first in
+    table-row-more _ _ (s .pre .0) _ _ _ _ _ (first-dot first) (second-dot (c .before .before .before .before)) (omega arith) (s .pre .3) (c .before .before .fill-row .ensures)
 
 pub fill-mark-spec : {M : Type 1} → statement M
 fill-mark-spec =

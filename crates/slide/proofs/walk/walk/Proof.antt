@@ -25,9 +25,12 @@ Inv-loop places lengths work sides₀ edges₀ above₀ below₀ i₀ sides edge
 abbrev μ-loop : tie.MeasureT-loop
 μ-loop places lengths work sides₀ edges₀ above₀ below₀ i₀ sides edges above below i = length places - i
 
--- the dot of the place that was read
-dot-read : (c : tie.After-dot-of Inv-loop μ-loop) → c .dot-of .result ≡ dot (getD (c .before .before .before .before .before .before .before .args .places .now) (c .before .before .before .loop .i) (pos 0))
-dot-read c = c .dot-of .ensures ∙ ap dot (fetched (getD (c .before .before .before .before .before .before .before .args .places .now) (c .before .before .before .loop .i) (pos 0)) (c .before .dot-of-arg .given))
+-- from where the place is read: the start, and its dot
+abbrev start : tie.After-dot-of Inv-loop μ-loop → tie.Start Inv-loop μ-loop
+start c = c .before .before .before .before .before .before .before
+
+dot-read : (c : tie.After-dot-of Inv-loop μ-loop) → c .dot-of .result ≡ dot (getD (start c .args .places .now) (c .before .before .before .loop .i) (pos 0))
+dot-read c = c .dot-of .ensures ∙ ap dot (fetched (getD (start c .args .places .now) (c .before .before .before .loop .i) (pos 0)) (c .before .dot-of-arg .given))
 
 -- the edge that is stored
 edge-written : (c : tie.After-at-dot Inv-loop μ-loop) → toZ w16 (ofZ w16 (c .at-dot .result)) ≡ atDot (c .before .place-label .result .edge)
@@ -53,8 +56,9 @@ shared-slice-read-place-label c = omega (arith, c .before .before .before .befor
 
 place-label-requires : tie.Need-place-label-requires Inv-loop μ-loop
 place-label-requires c κs =
-    rw (dot-read (c .before))
-    (step-ready _ _ (c .before .before .before .before .before .before .before .before .pre .checked) (c .before .before .before .before .before .before .before .before .args .work .now) _ _ _ _ _ _ (c .before .before .before .before .loop .i) (c .before .before .before .before .before .before .before .before .pre .table) (c .before .before .before .before .loop .inv .3) (omega arith) (c .before .before .before .before .before .before .before .before .pre .work-long))
+    let s = start (c .before) in
+    let l = c .before .before .before .before .loop in
+    rw (dot-read (c .before)) (step-ready _ _ (s .pre .checked) (s .args .work .now) _ _ _ _ _ _ (l .i) (s .pre .table) (l .inv .3) (omega arith) (s .pre .work-long))
 
 slice-write-sides : tie.Need-slice-write-sides Inv-loop μ-loop
 slice-write-sides c = omega (arith, c .before .before .before .before .before .before .before .before .before .pre .sides-long)
@@ -75,13 +79,15 @@ loop-less : tie.Need-loop-less Inv-loop μ-loop
 loop-less c = omega arith
 
 loop-again : tie.Need-loop-again Inv-loop μ-loop
-loop-again c = (
-  omega arith,
-  simp length-set (c .before .before .before .before .before .before .loop .inv .1),
-  simp length-set (c .before .before .before .before .before .before .loop .inv .2),
-  rw (edge-written c)
-      (walked-more _ _ (c .before .before .before .before .before .before .before .before .before .before .pre .checked) (c .before .before .before .before .before .before .before .before .before .before .args .work .now) _ _ _ _ _ _ (c .before .before .before .before .before .before .loop .i) (c .before .before .before .before .before .before .before .before .before .before .pre .table) (c .before .before .before .before .before .before .loop .inv .3) (omega arith) _ _ _ _ (rw (dot-read (c .before .before .before)) at (c .before .place-label .ensures)) (c .before .before .before .before .before .before .before .before .before .before .pre .sides-long) (c .before .before .before .before .before .before .before .before .before .before .pre .edges-long)),
-)
+loop-again c =
+    let s = start (c .before .before .before) in
+    let l = c .before .before .before .before .before .before .loop in (
+      omega arith,
+      simp length-set (l .inv .1),
+      simp length-set (l .inv .2),
+      rw (edge-written c)
+          (walked-more _ _ (s .pre .checked) (s .args .work .now) _ _ _ _ _ _ (l .i) (s .pre .table) (l .inv .3) (omega arith) _ _ _ _ (rw (dot-read (c .before .before .before)) at (c .before .place-label .ensures)) (s .pre .sides-long) (s .pre .edges-long)),
+    )
 
 same-length : tie.Need-same-length Inv-loop μ-loop
 same-length c = c .before .loop .inv .1
