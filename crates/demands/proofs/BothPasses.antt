@@ -13,7 +13,7 @@ use Rattle.geometry.specs.Lists.{sumList}
 use Rattle.geometry.specs.Mark.{Mark, marksOf}
 use Rattle.geometry.specs.Position.{Position}
 use Rattle.geometry.specs.Overlap.{allLabelled}
-use Rattle.geometry.specs.Placing.{firstPlacing, sumOf, bestSum}
+use Rattle.geometry.specs.Placing.{firstPlacing}
 use Rattle.geometry.specs.Entry.{sameLengths, goodMarks}
 use Rattle.geometry.specs.Pass.{passVerdict}
 use Rattle.geometry.specs.Refusal.{Verdict, accepted, refused, numberOf, afterCheck, firstFailure, listsUnequal, tooManyMarks, badMark, listTooShort, workTooShort}
@@ -22,11 +22,11 @@ use Rattle.geometry.proofs.Verdicts.{zero-accepted}
 use Rattle.geometry.proofs.Accepted.{Accepted, pass-accepted}
 use Rattle.geometry.proofs.Best.{free-length}
 use Rattle.geometry.proofs.Words.{never-none}
-use Rattle.geometry.proofs.Whole.{weightsOf, weights-of-marks, heavy-marks, all-earn, placing-found, best-whole-iff-placing}
+use Rattle.geometry.proofs.Whole.{weights-of-marks, heavy-marks, all-earn, placing-found, best-whole-iff-placing}
 use Rattle.full.specs.Full.{FullContract, fullVerdict}
 use Rattle.best.specs.declared.answer.Best.{Best}
 use Rattle.best.specs.Best.{BestContract, AcceptedAnswer, Lent, verdictOf}
-use Rattle.demands.specs.Compare.{Agreement, BestAgainstFull}
+use Rattle.demands.specs.Compare.{BestAgainstFull}
 
 -- behind the checks the full pass gives 0 with a placing and 11 without; 0 is given behind the checks alone
 accepted-by-0 : (v : Verdict) (o : Option (List Position)) → numberOf (fullVerdict v o) ≡ 0 → v ≡ accepted

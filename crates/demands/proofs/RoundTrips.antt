@@ -1,6 +1,6 @@
 -- Both round trips, from the contracts of the two job calls and the theorems about what they read and write.
 use mathlib.Core.Path.{_≡_, refl, sym, _∙_, ap}
-use mathlib.Core.Bool.{Bool, true, false}
+use mathlib.Core.Bool.{true}
 use mathlib.Core.List.{List, _++_}
 use Prim.Native.Nat.{ℕ, _+_, _≤_, _<_, min}
 use native.Mathlib.Omega.{arith}
@@ -9,11 +9,11 @@ use lib.IntN.{ℤ}
 use lib.ListN.{length, take, drop, length-append}
 use lib.Seq.{take-at}
 use borrow.Author.Tests.{lt-leb}
-use Rattle.geometry.specs.Refusal.{accepted, refused, listTooShort}
+use Rattle.geometry.specs.Refusal.{accepted, listTooShort}
 use Rattle.geometry.proofs.Verdicts.{zero-accepted}
 use Rattle.geometry.proofs.Accepted.{entry-accepted}
 use Rattle.job.specs.Number.{Bytes}
-use Rattle.job.specs.Outcome.{Outcome, given, refusal, checked, verdictOf}
+use Rattle.job.specs.Outcome.{given, refusal, checked, verdictOf}
 use Rattle.job.specs.Marks.{Marks}
 use Rattle.job.specs.Decode.{decodeHeader, decodeRecords, decode}
 use Rattle.job.specs.Encode.{jobFor}

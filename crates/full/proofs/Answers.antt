@@ -1,21 +1,21 @@
 -- The pass's contract, case by case: a refusal on entry, no placing, and the first placing.
 use mathlib.Core.Path.{_≡_, refl, sym, _∙_, ap, ap₂, subst}
 use mathlib.Core.Bool.{Bool, true, false, cond, _&&_, _||_}
-use mathlib.Core.List.{List, [], _∷_, _++_, map}
+use mathlib.Core.List.{List, _∷_, _++_}
 use mathlib.Core.Logic.{_⊎_, ⊎-elim}
 use mathlib.Core.Option.{Option, none, some}
-use Prim.Native.Nat.{ℕ, zero, suc, _+_, _≤_, _<_}
+use Prim.Native.Nat.{ℕ, _+_, _≤_, _<_}
 use native.Mathlib.Omega.{arith}
-use lib.Dec.{leb, eqb}
+use lib.Dec.{leb}
 use lib.IntN.{ℤ, pos}
 use lib.ListN.{length, drop, replicate, drop-of-length-le}
 use borrow.Author.Tests.{le-leb, eq-eqb, ne-eqb}
 use Rattle.geometry.specs.Mark.{Mark, marksOf}
-use Rattle.geometry.specs.Position.{Position, at, above, below, leftward, rightward, code}
+use Rattle.geometry.specs.Position.{Position, leftward, rightward}
 use Rattle.geometry.specs.Overlap.{leftEnd, rightEnd}
 use Rattle.geometry.specs.Placing.{firstPlacing}
 use Rattle.geometry.specs.Refusal.{Verdict, accepted, refused, numberOf}
-use Rattle.geometry.specs.Pass.{passVerdict, written, cleared}
+use Rattle.geometry.specs.Pass.{passVerdict}
 use Rattle.geometry.specs.inner.At.{markAt}
 use Rattle.geometry.specs.inner.Rising.{Rising}
 use Rattle.geometry.proofs.Split.{by-leb, lt-or-ge}
@@ -23,9 +23,9 @@ use Rattle.geometry.proofs.Verdicts.{zero-accepted}
 use Rattle.geometry.proofs.Rising.{rising-first}
 use Rattle.geometry.proofs.Accepted.{Accepted, pass-accepted, accepted-rising, length-marks, marks-from}
 use Rattle.full.specs.Full.{FullContract, fullVerdict, positionsAfter, workAfter}
-use Rattle.full.specs.inner.Rest.{can, walk, leaves}
+use Rattle.full.specs.inner.Rest.{can, walk}
 use Rattle.full.specs.inner.Row.{greatest, rowOf, keptOne, countOf}
-use Rattle.full.specs.inner.Table.{Ready, Filled, RowsFrom, WalkReady, Walked}
+use Rattle.full.specs.inner.Table.{Ready, Filled, WalkReady, Walked}
 use Rattle.full.proofs.Rest.{Inside, Reach}
 use Rattle.full.proofs.First.{first-placing-is}
 use Rattle.full.proofs.Walks.{marks-inside, above-leaves, below-leaves}

@@ -3,8 +3,7 @@ use mathlib.Core.Path.{_≡_, refl, sym, _∙_, ap, ap₂}
 use mathlib.Core.Bool.{Bool, true, false, cond, _&&_, _||_}
 use mathlib.Core.List.{List, [], _∷_, _++_, map}
 use mathlib.Core.Option.{Option, none, some}
-use Prim.Native.Nat.{ℕ, zero, suc, _+_}
-use lib.Dec.{leb}
+use Prim.Native.Nat.{ℕ, _+_}
 use lib.ListN.{length}
 use borrow.Author.Tests.{leb-true, le-leb}
 use Rattle.geometry.specs.Lists.{firstOf, prefixed, wordsOf}
@@ -14,9 +13,9 @@ use Rattle.geometry.specs.Overlap.{leftEnd, free}
 use Rattle.geometry.specs.Placing.{firstPlacing}
 use Rattle.geometry.specs.inner.Rising.{Rising}
 use Rattle.geometry.specs.inner.Machine.{Room, nextAbove, nextBelow, Go}
-use Rattle.geometry.proofs.Split.{both, and-fst, and-snd, by-bool, clash}
+use Rattle.geometry.proofs.Split.{both, and-fst, and-snd, clash}
 use Rattle.geometry.proofs.Machine.{free-iff-go}
-use Rattle.full.specs.inner.Rest.{roomTest, can, leaves, pick, walk}
+use Rattle.full.specs.inner.Rest.{roomTest, can, leaves, walk}
 
 -- the walk over a given choice, as a test
 unfoldable goes : ℕ → ℕ → ℕ → List Mark → List Position → Bool

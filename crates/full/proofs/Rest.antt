@@ -2,15 +2,15 @@
 use mathlib.Core.Path.{_≡_, refl, sym, _∙_, ap, ap₂}
 use mathlib.Core.Bool.{Bool, true, false, cond, _&&_, _||_, or-comm, and-comm}
 use mathlib.Core.List.{List, [], _∷_}
-use Prim.Native.Nat.{ℕ, _+_, _-_, _≤_, _<_, max}
+use Prim.Native.Nat.{ℕ, _+_, _-_, _≤_, max}
 use native.Mathlib.Omega.{arith}
 use lib.Dec.{leb}
 use borrow.Author.Tests.{le-leb, lt-leb}
 use Rattle.geometry.specs.Mark.{Mark}
-use Rattle.geometry.specs.Position.{Direction, leftward, rightward, Position, at, above, below}
+use Rattle.geometry.specs.Position.{Direction, leftward, rightward}
 use Rattle.geometry.specs.Overlap.{leftEnd, rightEnd}
-use Rattle.geometry.proofs.Split.{by-leb, by-bool}
-use Rattle.full.specs.inner.Rest.{roomTest, can}
+use Rattle.geometry.proofs.Split.{by-leb}
+use Rattle.full.specs.inner.Rest.{can}
 use Rattle.full.specs.inner.Row.{candidates, greatest}
 
 swap-sides : (x y z w : Bool) → (x || (y || (z || w))) ≡ (y || (x || (w || z)))

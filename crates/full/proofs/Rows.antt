@@ -2,22 +2,21 @@
 use mathlib.Core.Path.{_≡_, refl, sym, _∙_, ap, subst}
 use mathlib.Core.Logic.{_⊎_, ⊎-elim}
 use mathlib.Core.List.{List, [], _∷_, _++_, map, append-assoc}
-use Prim.Native.Nat.{ℕ, zero, suc, _+_, _-_, _*_, _≤_, _<_}
+use Prim.Native.Nat.{ℕ, suc, _+_, _-_, _*_, _≤_, _<_}
 use native.Mathlib.Omega.{arith}
-use native.Mathlib.Nat.{le-antisymm}
 use native.Mathlib.Numerals.{add-one}
 use lib.IntN.{ℤ, pos}
-use lib.ListN.{length, getD, take, drop, set, length-set, drop-of-length-le}
+use lib.ListN.{length, getD, take, drop, set, drop-of-length-le}
 use lib.Seq.{sets, sets-eq, length-sets, drop-set-lt, drop-at, take-at, length-take-le}
 use Rattle.geometry.specs.Dot.{dot}
 use Rattle.geometry.specs.Mark.{Mark, marksOf}
 use Rattle.geometry.specs.Position.{leftward, rightward}
-use Rattle.geometry.specs.Overlap.{leftEnd, rightEnd}
+use Rattle.geometry.specs.Overlap.{rightEnd}
 use Rattle.geometry.specs.inner.At.{markAt}
 use Rattle.geometry.proofs.Split.{lt-or-ge}
 use Rattle.geometry.proofs.Accepted.{length-marks, marks-from}
-use Rattle.full.specs.inner.Row.{candidates, greatest, rowOf, countOf, four, rowBefore, Counted}
-use Rattle.full.specs.inner.Table.{rowAt, IsRow, RowsFrom, Ready, Filled}
+use Rattle.full.specs.inner.Row.{greatest, rowOf, countOf, four, rowBefore, Counted}
+use Rattle.full.specs.inner.Table.{IsRow, RowsFrom, Ready, Filled}
 
 -- the last mark leaves no bound
 pub last-row : (zs : List ℤ) (ls : List ℕ) (k : ℕ) (reaches : List ℤ) → length zs ≡ length ls → k + 1 ≡ length zs

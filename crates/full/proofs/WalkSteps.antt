@@ -1,27 +1,22 @@
 -- One step of the walk, and its end.
 use mathlib.Core.Path.{_≡_, refl, sym, _∙_, ap, ap₂, subst}
-use mathlib.Core.Bool.{Bool, true, cond, _&&_}
 use mathlib.Core.List.{List, [], _∷_, _++_, map, append-nil}
 use Prim.Native.Nat.{ℕ, suc, _+_, _-_, _*_, _≤_, _<_}
 use native.Mathlib.Omega.{arith}
 use native.Mathlib.Numerals.{add-one}
-use lib.Dec.{leb}
 use lib.IntN.{ℤ, pos}
-use lib.Signed.{mag}
 use lib.ListN.{length, getD, take, drop, set, length-set, take-append-drop, drop-of-length-le}
 use lib.Seq.{take-suc-set, drop-set-lt, drop-drop, append-snoc, length-take-le}
 use Rattle.geometry.specs.Dot.{dot}
-use Rattle.geometry.specs.Mark.{Mark, marksOf, placeInRange}
-use Rattle.geometry.specs.Position.{leftward, rightward, Position, code}
-use Rattle.geometry.specs.Overlap.{leftEnd, rightEnd}
-use Rattle.geometry.specs.Pass.{written}
+use Rattle.geometry.specs.Mark.{Mark, marksOf}
+use Rattle.geometry.specs.Position.{Position, code}
 use Rattle.geometry.specs.inner.At.{markAt}
 use Rattle.geometry.specs.inner.Machine.{nextAbove, nextBelow}
 use Rattle.geometry.proofs.Accepted.{length-marks, marks-from}
-use Rattle.full.specs.inner.Rest.{pick, walk, pickByRow, endOf, aboveBy, belowBy, Stepped}
-use Rattle.full.specs.inner.Row.{greatest, rowOf}
-use Rattle.full.specs.inner.Table.{rowAt, WalkReady, Walked}
-use Rattle.full.proofs.Rest.{Inside, Reach}
+use Rattle.full.specs.inner.Rest.{pick, walk, pickByRow, Stepped}
+use Rattle.full.specs.inner.Row.{rowOf}
+use Rattle.full.specs.inner.Table.{rowAt, Walked}
+use Rattle.full.proofs.Rest.{Inside}
 use Rattle.full.proofs.Walks.{marks-inside, inside-drop, row-picks, next-above, next-below, next-above-some, next-below-some, dot-inside, row-number, Walking}
 
 -- the numbers so far with one more

@@ -1,30 +1,26 @@
 -- The walk over the table takes at each mark the position that the definition picks.
-use mathlib.Core.Path.{_≡_, refl, sym, _∙_, ap, ap₂}
-use mathlib.Core.Bool.{Bool, true, false, cond, _&&_}
-use mathlib.Core.List.{List, [], _∷_, _++_, map, append-nil}
+use mathlib.Core.Path.{_≡_, refl, sym, _∙_, ap}
+use mathlib.Core.Bool.{Bool, true, _&&_}
+use mathlib.Core.List.{List, [], _∷_, _++_, map}
 use Prim.Native.Nat.{ℕ, zero, suc, _+_, _-_, _*_, _≤_, _<_}
 use native.Mathlib.Omega.{arith}
-use native.Mathlib.Numerals.{add-one}
 use lib.Dec.{leb}
 use lib.IntN.{ℤ, pos, negsuc}
 use lib.Signed.{mag}
-use lib.ListN.{length, getD, take, drop, set, length-set, length-append, List·getD-map, take-append-drop, drop-of-length-le}
-use lib.Seq.{getD-take, getD-drop, take-suc-set, drop-set-lt, drop-drop, append-snoc, length-take-le}
+use lib.ListN.{length, getD, take, drop, List·getD-map}
+use lib.Seq.{getD-take, getD-drop}
 use borrow.Author.Tests.{leb-true}
 use Rattle.geometry.specs.Dot.{dot}
 use Rattle.geometry.specs.Lists.{every}
 use Rattle.geometry.specs.Mark.{Mark, marksOf, placeInRange, lengthInRange}
-use Rattle.geometry.specs.Position.{Side, above, below, Direction, leftward, rightward, Position, unlabelled, at, code}
+use Rattle.geometry.specs.Position.{above, below, Direction, leftward, rightward, Position, unlabelled, at, code}
 use Rattle.geometry.specs.Overlap.{leftEnd, rightEnd}
-use Rattle.geometry.specs.Pass.{written}
-use Rattle.geometry.specs.inner.At.{markAt}
 use Rattle.geometry.specs.inner.Machine.{nextAbove, nextBelow}
 use Rattle.geometry.proofs.Split.{and-fst, and-snd}
 use Rattle.geometry.proofs.Dots.{range-dots}
-use Rattle.geometry.proofs.Accepted.{every-at, length-marks, marks-from}
-use Rattle.full.specs.inner.Rest.{can, leaves, pick, walk, pickByRow, endOf, aboveBy, belowBy, Stepped}
-use Rattle.full.specs.inner.Row.{greatest, rowOf}
-use Rattle.full.specs.inner.Table.{rowAt, RowsFrom, Ready, WalkReady, Walked}
+use Rattle.full.specs.inner.Rest.{leaves, pick, walk, pickByRow, endOf, aboveBy, belowBy}
+use Rattle.full.specs.inner.Row.{greatest}
+use Rattle.full.specs.inner.Table.{rowAt, WalkReady}
 use Rattle.full.proofs.Rest.{Inside, Reach, can-mirror, can-within}
 
 -- accepted marks end inside the coordinates

@@ -2,18 +2,17 @@
 use mathlib.Core.Path.{_≡_, refl, sym, _∙_, ap}
 use mathlib.Core.Bool.{Bool, true, false, _&&_}
 use mathlib.Core.List.{List, [], _∷_}
-use Prim.Native.Nat.{ℕ, zero, suc, _+_, _≤_, _<_}
+use Prim.Native.Nat.{ℕ, zero, suc, _≤_, _<_}
 use native.Mathlib.Omega.{arith}
-use native.Mathlib.Numerals.{add-one}
-use lib.Dec.{leb, eqb, ltb}
-use lib.IntN.{ℤ, pos}
+use lib.Dec.{leb, eqb}
+use lib.IntN.{ℤ}
 use lib.Signed.{ltZ}
 use lib.ListN.{length, getD, drop}
 use borrow.Author.Tests.{leb-true, eqb-true, ltb-true}
 use Rattle.geometry.specs.Dot.{dot}
 use Rattle.geometry.specs.Lists.{every}
-use Rattle.geometry.specs.Mark.{Mark, marksOf, placeInRange, lengthInRange, weightInRange, rising}
-use Rattle.geometry.specs.Refusal.{Refusal, Verdict, accepted, refused, afterCheck, firstFailure}
+use Rattle.geometry.specs.Mark.{marksOf, placeInRange, lengthInRange, weightInRange, rising}
+use Rattle.geometry.specs.Refusal.{Refusal, Verdict, accepted, afterCheck, firstFailure}
 use Rattle.geometry.specs.Entry.{sameLengths, goodMarks, entry}
 use Rattle.geometry.specs.Pass.{passVerdict}
 use Rattle.geometry.specs.inner.At.{markAt}

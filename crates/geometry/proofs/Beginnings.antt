@@ -1,8 +1,8 @@
 -- A strip that fits has a placing that begins with an unbeaten part layout. Take a placing; if its beginning is beaten, go to what
 -- beats it, and so on: the sum of the reaches falls each time. The rest of the placing goes behind the last one, mirrored if the
 -- sides are exchanged.
-use mathlib.Core.Path.{_≡_, refl, sym, _∙_, ap}
-use mathlib.Core.Bool.{Bool, true, false, not, _&&_, _||_}
+use mathlib.Core.Path.{_≡_, refl, sym, _∙_}
+use mathlib.Core.Bool.{true, not, _&&_, _||_}
 use mathlib.Core.Logic.{_⊎_, inl, inr, ⊎-elim}
 use mathlib.Core.List.{List, [], _∷_, _++_, map}
 use Prim.Native.Nat.{ℕ, zero, suc, _+_, _≤_, _<_, max, min}
@@ -12,18 +12,17 @@ use lib.Dec.{leb, ltb}
 use lib.ListN.{length, take, drop, take-append-drop}
 use lib.Seq.{take-at, length-take-le}
 use borrow.Author.Tests.{leb-true, ltb-true, not-false}
-use Rattle.geometry.specs.Lists.{every}
 use Rattle.geometry.specs.Mark.{Mark}
 use Rattle.geometry.specs.Position.{above, below, Position, unlabelled, at, labelled, mirror}
-use Rattle.geometry.specs.Overlap.{free, allLabelled}
+use Rattle.geometry.specs.Overlap.{allLabelled}
 use Rattle.geometry.specs.Placing.{IsPlacing}
 use Rattle.geometry.specs.Layout.{partLayouts, reach, Pair, pairOf, beats, unbeaten, BeginsUnbeaten}
 use Rattle.geometry.specs.inner.Rising.{Rising}
 use Rattle.geometry.specs.inner.Machine.{Go}
-use Rattle.geometry.proofs.Split.{both, by-bool, and-fst, and-snd, or-cases, clash}
-use Rattle.geometry.proofs.Rising.{Beyond, rising-rest}
+use Rattle.geometry.proofs.Split.{both, by-bool, and-fst, and-snd, or-cases}
+use Rattle.geometry.proofs.Rising.{Beyond}
 use Rattle.geometry.proofs.Machine.{free-iff-go, smaller-reaches-go, mirror-go}
-use Rattle.geometry.proofs.Reaches.{endAbove, endBelow, go-split, go-join, end-above, end-below, effective, effective-less}
+use Rattle.geometry.proofs.Reaches.{endAbove, endBelow, go-split, go-join, end-above, end-below, effective-less}
 use Rattle.geometry.proofs.Words.{Member}
 use Rattle.geometry.proofs.Kept.{Failing, one-fails}
 use Rattle.geometry.proofs.Best.{free-length}

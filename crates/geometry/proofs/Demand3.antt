@@ -1,13 +1,12 @@
 -- The two sentences of demand 3 about part layouts, over the three lists of a strip that the checks on entry accept, after any
 -- mark k and at any gap g. Part layouts are judged by pairwise overlap and reaches by right ends.
-use mathlib.Core.Path.{_≡_, refl, sym, _∙_, ap}
-use mathlib.Core.Bool.{Bool, true, false, _&&_}
+use mathlib.Core.Path.{_≡_}
+use mathlib.Core.Bool.{true}
 use mathlib.Core.List.{List, [], _∷_}
-use Prim.Native.Nat.{ℕ, zero, suc, _≤_, _<_}
+use Prim.Native.Nat.{ℕ, zero, suc, _≤_}
 use native.Mathlib.Omega.{arith}
 use lib.IntN.{ℤ}
 use lib.ListN.{length, take}
-use Rattle.geometry.specs.Dot.{dot}
 use Rattle.geometry.specs.Lists.{every}
 use Rattle.geometry.specs.Mark.{Mark, marksOf, placeInRange}
 use Rattle.geometry.specs.Position.{Position}
@@ -18,7 +17,7 @@ use Rattle.geometry.specs.Layout.{unbeatenCount, BeginsUnbeaten}
 use Rattle.geometry.specs.inner.Rising.{Rising}
 use Rattle.geometry.proofs.Split.{and-fst, and-snd}
 use Rattle.geometry.proofs.Dots.{range-dots}
-use Rattle.geometry.proofs.Accepted.{Accepted, entry-accepted, accepted-rising, length-marks}
+use Rattle.geometry.proofs.Accepted.{entry-accepted, accepted-rising, length-marks}
 use Rattle.geometry.proofs.Rising.{Beyond}
 use Rattle.geometry.proofs.Layouts.{two-unbeaten}
 use Rattle.geometry.proofs.Beginnings.{rising-take, beyond-take, begins-unbeaten}

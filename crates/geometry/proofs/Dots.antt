@@ -1,18 +1,18 @@
 -- Signed 16-bit coordinates and their dots: sums, differences and tests of one are those of the other.
 use mathlib.Core.Path.{_≡_, refl, sym, _∙_, ap, ap₂}
-use mathlib.Core.Bool.{Bool, true, false, not, _&&_}
+use mathlib.Core.Bool.{Bool, true, false, not}
 use Prim.Native.Nat.{ℕ, zero, suc, _+_, _-_, _≤_, _<_}
 use native.Mathlib.Omega.{arith}
 use lib.Dec.{leb, ltb}
-use lib.IntN.{ℤ, pos, negsuc, negℤ, subℕ, _+ℤ_, _-ℤ_}
+use lib.IntN.{ℤ, pos, negsuc, subℕ, _+ℤ_, _-ℤ_}
 use lib.Signed.{mag, leZ, ltZ}
 use mir.Syntax.{w16}
 use mir.Val.{SFits, toZ, ofZ}
 use mir.ValLaws.{toZ-ofZ}
-use borrow.Author.Tests.{leb-true, leb-false, le-leb, lt-leb}
+use borrow.Author.Tests.{leb-true, le-leb, lt-leb}
 use Rattle.geometry.specs.Dot.{dot}
 use Rattle.geometry.specs.Mark.{placeInRange}
-use Rattle.geometry.proofs.Split.{by-ltb, by-leb, and-fst, and-snd}
+use Rattle.geometry.proofs.Split.{by-ltb, by-leb, and-fst}
 
 -- a number that went through 16 bits is itself
 pub back : {z : ℤ} → SFits w16 z → toZ w16 (ofZ w16 z) ≡ z

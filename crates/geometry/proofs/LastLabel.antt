@@ -1,15 +1,15 @@
 -- After the last mark its own label is the rightmost on its side, so one of the two reaches is that label's right end.
-use mathlib.Core.Path.{_≡_, refl, sym, _∙_, ap}
-use mathlib.Core.Bool.{Bool, true, false, _&&_}
+use mathlib.Core.Path.{_≡_, refl, ap}
+use mathlib.Core.Bool.{true}
 use mathlib.Core.Logic.{_⊎_, inl, inr, ⊎-elim}
 use mathlib.Core.List.{List, [], _∷_, map}
 use Prim.Native.Nat.{ℕ, _+_, _≤_, _<_, max, min}
 use native.Mathlib.Omega.{arith}
 use Rattle.geometry.specs.Mark.{Mark}
-use Rattle.geometry.specs.Position.{Side, above, below, Direction, leftward, rightward, Position, unlabelled, at, labelled, mirror}
-use Rattle.geometry.specs.Overlap.{leftEnd, rightEnd, allLabelled}
-use Rattle.geometry.specs.Layout.{reachWith, reach, Pair, pairOf}
-use Rattle.geometry.specs.inner.Machine.{Room, nextAbove, nextBelow, Go}
+use Rattle.geometry.specs.Position.{above, below, Direction, leftward, Position, unlabelled, at, mirror}
+use Rattle.geometry.specs.Overlap.{rightEnd, allLabelled}
+use Rattle.geometry.specs.Layout.{reach, Pair, pairOf}
+use Rattle.geometry.specs.inner.Machine.{nextAbove, nextBelow, Go}
 use Rattle.geometry.proofs.Split.{clash}
 use Rattle.geometry.proofs.Rising.{Beyond}
 use Rattle.geometry.proofs.Machine.{right-ge, mirror-go}

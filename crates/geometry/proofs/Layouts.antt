@@ -1,7 +1,7 @@
 -- Why two part layouts are enough. After mark k the pair of reaches is {e, o}: e is one of the two right ends that its label can
 -- have, and of two pairs with the same e the one with the smaller o beats the other, or they are equal.
 use mathlib.Core.Path.{_≡_, refl, sym, _∙_, ap, ap₂}
-use mathlib.Core.Bool.{Bool, true, false, not, cond, _&&_, _||_}
+use mathlib.Core.Bool.{Bool, true, false, not, cond}
 use mathlib.Core.Logic.{_⊎_, inl, inr, ⊎-elim}
 use mathlib.Core.List.{List, [], _∷_, map}
 use Prim.Native.Nat.{ℕ, suc, _+_, _≤_, _<_, max, min}
@@ -10,14 +10,13 @@ use native.Mathlib.Decide.{decLe}
 use lib.Dec.{leb, ltb, eqb}
 use lib.ListN.{length}
 use borrow.Author.Tests.{le-leb, lt-ltb, eq-eqb}
-use Rattle.geometry.specs.Lists.{every, anyOf, keep, wordsOf}
+use Rattle.geometry.specs.Lists.{anyOf, keep, wordsOf}
 use Rattle.geometry.specs.Mark.{Mark}
 use Rattle.geometry.specs.Position.{Direction, leftward, rightward, Position, ranked}
-use Rattle.geometry.specs.Overlap.{free, allLabelled}
-use Rattle.geometry.specs.Placing.{IsPlacing, placings}
+use Rattle.geometry.specs.Overlap.{free}
+use Rattle.geometry.specs.Placing.{IsPlacing}
 use Rattle.geometry.specs.Layout.{partLayouts, Pair, pairOf, beats, unbeaten, samePair, distinct, unbeatenCount}
 use Rattle.geometry.specs.inner.Rising.{Rising}
-use Rattle.geometry.specs.inner.Machine.{Go}
 use Rattle.geometry.proofs.Split.{both, by-bool, clash, lt-or-ge, or-left, or-right}
 use Rattle.geometry.proofs.Rising.{Beyond}
 use Rattle.geometry.proofs.Machine.{free-iff-go}

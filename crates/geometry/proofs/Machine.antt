@@ -1,7 +1,7 @@
 -- A choice is free exactly if the walk with two reaches goes through; only here do places have to rise strictly.
 -- A label of an earlier mark cannot lie wholly to the right of a later one on its side, so of the two ways in which labels can be
 -- apart only one is left, and of the earlier labels only the last one on the side matters.
-use mathlib.Core.Path.{_≡_, refl, sym, _∙_, ap}
+use mathlib.Core.Path.{_≡_, refl, _∙_, ap}
 use mathlib.Core.Bool.{Bool, true, false, not, _&&_, and-false}
 use mathlib.Core.Logic.{_↔_}
 use mathlib.Core.List.{List, [], _∷_, map}
@@ -10,7 +10,7 @@ use native.Mathlib.Omega.{arith}
 use lib.Dec.{ltb}
 use borrow.Author.Tests.{le-ltb, lt-ltb, ltb-false}
 use Rattle.geometry.specs.Mark.{Mark}
-use Rattle.geometry.specs.Position.{Side, above, below, Direction, leftward, rightward, Position, unlabelled, at, mirror}
+use Rattle.geometry.specs.Position.{above, below, Direction, leftward, rightward, Position, unlabelled, at, mirror}
 use Rattle.geometry.specs.Overlap.{leftEnd, rightEnd, overlaps, apart, free}
 use Rattle.geometry.specs.inner.Rising.{Rising}
 use Rattle.geometry.specs.inner.Machine.{Room, nextAbove, nextBelow, Go}

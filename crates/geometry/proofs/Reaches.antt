@@ -1,18 +1,18 @@
 -- The two reaches of a part layout, by right ends, against those that the walk holds after it.
-use mathlib.Core.Path.{_≡_, refl, sym, _∙_, ap, ap₂}
-use mathlib.Core.Bool.{Bool, true, false, cond, _&&_}
-use mathlib.Core.Logic.{_⊎_, inl, inr, ⊎-elim}
+use mathlib.Core.Path.{_≡_, refl, _∙_, ap}
+use mathlib.Core.Bool.{Bool, cond}
+use mathlib.Core.Logic.{_⊎_, ⊎-elim}
 use mathlib.Core.List.{List, [], _∷_, _++_, map}
-use Prim.Native.Nat.{ℕ, zero, suc, _+_, _≤_, _<_, max, min}
+use Prim.Native.Nat.{ℕ, _+_, _≤_, _<_, max}
 use native.Mathlib.Omega.{arith}
 use lib.Dec.{leb}
 use lib.ListN.{length}
 use Rattle.geometry.specs.Mark.{Mark}
-use Rattle.geometry.specs.Position.{Side, above, below, Direction, leftward, rightward, Position, unlabelled, at, labelled, mirror, opposite, sameSide}
-use Rattle.geometry.specs.Overlap.{leftEnd, rightEnd, allLabelled}
-use Rattle.geometry.specs.Layout.{reachWith, reach}
-use Rattle.geometry.specs.inner.Machine.{Room, nextAbove, nextBelow, Go}
-use Rattle.geometry.proofs.Split.{by-leb, lt-or-ge, and-snd}
+use Rattle.geometry.specs.Position.{Side, above, below, Direction, Position, unlabelled, at, mirror, opposite}
+use Rattle.geometry.specs.Overlap.{rightEnd}
+use Rattle.geometry.specs.Layout.{reach}
+use Rattle.geometry.specs.inner.Machine.{nextAbove, nextBelow, Go}
+use Rattle.geometry.proofs.Split.{by-leb, lt-or-ge}
 use Rattle.geometry.proofs.Rising.{Beyond}
 use Rattle.geometry.proofs.Machine.{left-le, right-ge, mirror-go}
 

@@ -9,7 +9,7 @@ use lib.Signed.{mag, ltZ}
 use borrow.Author.Tests.{leb-true}
 use Rattle.geometry.specs.Dot.{dot}
 use Rattle.geometry.specs.Mark.{Mark, placeInRange, lengthInRange}
-use Rattle.geometry.specs.Position.{Side, Direction, leftward, rightward, Position, unlabelled, at, sameSide}
+use Rattle.geometry.specs.Position.{Direction, leftward, rightward, Position, unlabelled, at, sameSide}
 use Rattle.geometry.specs.Overlap.{leftEnd, rightEnd, overlaps}
 use Rattle.geometry.specs.SignedEnds.{signedLeftEnd, signedRightEnd, signedOverlaps}
 use Rattle.geometry.proofs.Split.{and-snd}

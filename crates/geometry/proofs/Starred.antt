@@ -1,12 +1,11 @@
 -- The cases marked *, computed: a test for each claim, a law that the test proves the claim, and one run over the whole list.
-use mathlib.Core.Path.{_≡_, refl, sym, _∙_, ap, ap₂}
+use mathlib.Core.Path.{_≡_, refl, ap₂}
 use mathlib.Core.Bool.{Bool, true, false, not, _&&_, _||_}
-use mathlib.Core.Logic.{inl, inr, ⊎-elim}
+use mathlib.Core.Logic.{⊎-elim}
 use mathlib.Core.List.{List, [], _∷_, map}
 use mathlib.Core.Option.{Option, none, some}
-use Prim.Native.Nat.{ℕ, suc, _≤_}
-use native.Mathlib.Omega.{arith}
-use lib.Dec.{leb, ltb, eqb}
+use Prim.Native.Nat.{ℕ}
+use lib.Dec.{ltb, eqb}
 use lib.ListN.{length}
 use borrow.Author.Tests.{eqb-true, ltb-true, not-true, eq-eqb}
 use Rattle.geometry.specs.Lists.{every, anyOf, keep, firstOf, greatestOf, prefixed, wordsOf}
@@ -18,7 +17,7 @@ use Rattle.geometry.specs.Sliding.{edgesFrom, noneBeyond, slidesWhole}
 use Rattle.geometry.specs.Layout.{partLayouts, reach, unbeaten, distinct, unbeatenCount}
 use Rattle.geometry.specs.Strips.{Says, fullIs, fullNone, slideFits, slideNone, bestIs, bestOut, unbeatenIs, Holds, Claim, starred, leftOutFrom}
 use Rattle.geometry.specs.inner.Rising.{Rising}
-use Rattle.geometry.proofs.Split.{both, by-bool, and-fst, and-snd, clash, or-cases}
+use Rattle.geometry.proofs.Split.{both, and-fst, and-snd, clash, or-cases}
 use Rattle.geometry.proofs.Words.{Member}
 use Rattle.geometry.proofs.Kept.{every-passes}
 use Rattle.geometry.proofs.Best.{free-listed}

@@ -1,8 +1,7 @@
 -- The first failure of a list of checks, when more checks follow.
-use mathlib.Core.Path.{_≡_, refl, sym, _∙_, ap}
+use mathlib.Core.Path.{_≡_, refl, _∙_, ap}
 use mathlib.Core.Bool.{Bool, true, false}
 use mathlib.Core.List.{List, [], _∷_, _++_}
-use Prim.Native.Nat.{ℕ}
 use native.Mathlib.Omega.{arith}
 use Rattle.geometry.specs.Refusal.{Refusal, bytesEnd, strayBit, absentValue, fieldOutOfRange, bytesLeftOver, listsUnequal, tooManyMarks, badMark, listTooShort, workTooShort, noPlacing, refusalNumber, Verdict, accepted, refused, numberOf, Check, afterCheck, firstFailure}
 

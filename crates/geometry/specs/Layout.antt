@@ -1,8 +1,8 @@
 -- "Unbeaten part layouts", by enumeration. (Part layout = k-realization; unbeaten = Pareto-minimal.)
-use Prim.Native.Nat.{ℕ, suc, max, min}
+use Prim.Native.Nat.{ℕ, max, min}
 use mathlib.Core.Path.{_≡_}
 use mathlib.Core.List.{List, [], _∷_, map}
-use mathlib.Core.Bool.{Bool, true, false, not, cond, _&&_, _||_}
+use mathlib.Core.Bool.{Bool, true, not, cond, _&&_, _||_}
 use lib.Dec.{leb, ltb, eqb}
 use lib.ListN.{length, take}
 use Rattle.geometry.specs.Lists.{every, anyOf, keep}

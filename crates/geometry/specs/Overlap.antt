@@ -6,7 +6,7 @@ use mathlib.Core.List.{List, [], _∷_}
 use mathlib.Core.Bool.{Bool, true, false, not, _&&_}
 use lib.Dec.{ltb}
 use Rattle.geometry.specs.Mark.{Mark}
-use Rattle.geometry.specs.Position.{Side, Direction, leftward, rightward, Position, unlabelled, at, sameSide, labelled}
+use Rattle.geometry.specs.Position.{Direction, leftward, rightward, Position, unlabelled, at, sameSide, labelled}
 
 -- a label's ends: [place − length, place] to the left of its mark, [place, place + length] to the right
 abbrev pub leftEnd : Mark → Direction → ℕ

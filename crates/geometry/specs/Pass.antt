@@ -5,7 +5,7 @@ use mathlib.Core.List.{List, [], _∷_, _++_}
 use lib.Dec.{leb}
 use lib.IntN.{ℤ}
 use lib.ListN.{length, drop, replicate}
-use Rattle.geometry.specs.Refusal.{Check, Verdict, firstFailure, listTooShort, workTooShort}
+use Rattle.geometry.specs.Refusal.{Verdict, firstFailure, listTooShort, workTooShort}
 use Rattle.geometry.specs.Entry.{entryChecks}
 
 -- checks 6 to 10 of a pass that takes at most limit marks: its shortest answer list and its work area have the lengths

@@ -1,6 +1,6 @@
 -- A label's ends and overlap as signed coordinates, in dots as document 01 counts them, before any shift.
 use Prim.Native.Nat.{ℕ}
-use mathlib.Core.Bool.{Bool, true, false, _&&_}
+use mathlib.Core.Bool.{Bool, false, _&&_}
 use lib.IntN.{ℤ, pos, _+ℤ_, _-ℤ_}
 use lib.Signed.{ltZ}
 use Rattle.geometry.specs.Position.{Direction, leftward, rightward, Position, unlabelled, at, sameSide}

@@ -2,9 +2,9 @@
 use Prim.Native.Nat.{ℕ, suc, _≤_}
 use mathlib.Core.Path.{_≡_}
 use mathlib.Core.List.{List, [], _∷_, map}
-use mathlib.Core.Option.{Option, none, some}
-use mathlib.Core.Bool.{Bool, true}
-use lib.IntN.{ℤ, pos}
+use mathlib.Core.Option.{none, some}
+use mathlib.Core.Bool.{true}
+use lib.IntN.{pos}
 use lib.ListN.{length, replicate}
 use Rattle.geometry.specs.Mark.{Mark, marksOf}
 use Rattle.geometry.specs.Position.{Position, unlabelled, at, code}

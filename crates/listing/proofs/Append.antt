@@ -1,15 +1,12 @@
 -- Pieces of text one behind the other.
 use mathlib.Core.Path.{_≡_, refl, sym, _∙_, ap, subst}
-use mathlib.Core.Bool.{Bool, true, false, cond}
 use mathlib.Core.List.{List, [], _∷_, _++_, append-nil, append-assoc}
-use Prim.Native.Nat.{ℕ, zero, suc, _+_, _-_, _*_, _/_, _%_, _≤_, _<_}
+use Prim.Native.Nat.{ℕ, _+_, _-_, _*_, _≤_, _<_}
 use native.Mathlib.Omega.{arith}
 use native.Mathlib.Numerals.{add-one}
-use lib.Dec.{leb}
 use lib.ListN.{length, getD, take, drop, set, length-append, take-append-drop}
 use lib.Seq.{take-suc-set, take-suc, drop-set-lt, drop-drop}
-use Rattle.geometry.proofs.Split.{by-leb}
-use Rattle.listing.specs.Text.{digitAt, decimal, spaced, bestWord, ofWord, lineEnd, bestLine, marksWord, marksLine}
+use Rattle.listing.specs.Text.{decimal, spaced}
 use Rattle.listing.specs.inner.Append.{Appended}
 
 pub appended-none : (b : List ℕ) (at : ℕ) → Appended b at [] b at

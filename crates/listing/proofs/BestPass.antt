@@ -1,13 +1,13 @@
 -- What the best pass's contract says of a strip that was accepted on entry, in the words of the lines.
-use mathlib.Core.Path.{_≡_, refl, sym, _∙_, ap, subst}
-use mathlib.Core.List.{List, _++_}
-use Prim.Native.Nat.{ℕ, _+_, _≤_}
+use mathlib.Core.Path.{_≡_, sym, _∙_, ap, subst}
+use mathlib.Core.List.{List}
+use Prim.Native.Nat.{ℕ, _≤_}
 use native.Mathlib.Omega.{arith}
 use lib.IntN.{ℤ}
 use lib.ListN.{length, take, drop, length-append}
 use lib.Seq.{take-at}
 use Rattle.geometry.specs.Lists.{sumList}
-use Rattle.geometry.specs.Mark.{Mark, marksOf}
+use Rattle.geometry.specs.Mark.{marksOf}
 use Rattle.geometry.specs.Placing.{bestSum}
 use Rattle.geometry.specs.Refusal.{accepted}
 use Rattle.best.specs.declared.answer.Best.{Best}

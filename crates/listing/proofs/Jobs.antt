@@ -1,19 +1,17 @@
 -- The text of a whole job, refused or accepted.
-use mathlib.Core.Path.{_≡_, refl, sym, _∙_, ap, ap₂, subst}
-use mathlib.Core.Bool.{Bool, true, false, cond}
+use mathlib.Core.Path.{_≡_, refl, sym, _∙_, ap, subst}
+use mathlib.Core.Bool.{true, false, cond}
 use mathlib.Core.Logic.{_↔_}
-use mathlib.Core.List.{List, [], _∷_, _++_, append-assoc}
-use Prim.Native.Nat.{ℕ, _+_, _≤_, _<_}
+use mathlib.Core.List.{List, [], _++_, append-assoc}
+use Prim.Native.Nat.{ℕ, _+_, _≤_}
 use native.Mathlib.Omega.{arith}
 use lib.Dec.{leb}
 use lib.IntN.{ℤ}
-use lib.ListN.{length, take, drop, length-take}
+use lib.ListN.{length, take}
 use lib.Seq.{take-at}
-use Rattle.geometry.specs.Lists.{sumList}
 use Rattle.geometry.specs.Mark.{Mark, marksOf}
-use Rattle.geometry.specs.Placing.{bestSum}
-use Rattle.geometry.specs.Sliding.{slidesWhole, Slides}
-use Rattle.geometry.specs.Refusal.{Verdict, accepted, refused, numberOf, refusalNumber}
+use Rattle.geometry.specs.Sliding.{slidesWhole}
+use Rattle.geometry.specs.Refusal.{accepted, refused, numberOf}
 use Rattle.geometry.specs.Entry.{entry}
 use Rattle.geometry.proofs.Verdicts.{zero-accepted}
 use Rattle.geometry.proofs.Accepted.{entry-accepted, accepted-rising}
@@ -23,11 +21,11 @@ use Rattle.job.specs.Number.{Bytes}
 use Rattle.job.specs.Outcome.{Outcome, given, refusal, verdictOf}
 use Rattle.job.specs.Marks.{Marks}
 use Rattle.job.specs.Decode.{decode}
-use Rattle.job.specs.Calls.{ReadCall, usedOf, leftAs}
+use Rattle.job.specs.Calls.{ReadCall}
 use Rattle.job.specs.declared.answer.Read.{Read}
 use Rattle.job.proofs.Outcomes.{given-same}
 use Rattle.job.proofs.RoundTrips.{read-accepted}
-use Rattle.listing.specs.Text.{decimal, refusedWord, lineEnd, marksLine, fullLine, slideLine, bestLine, outLine, tooLongLines, refusedLine, shortLines, listingOf}
+use Rattle.listing.specs.Text.{decimal, refusedWord, lineEnd, marksLine, fullLine, tooLongLines, refusedLine, shortLines, listingOf}
 use Rattle.listing.specs.Listing.{TextOf, SlidesSomehow, Chosen}
 use Rattle.listing.specs.inner.Append.{Appended}
 use Rattle.listing.specs.inner.Lines.{StripLines, Listing}

@@ -1,10 +1,10 @@
 -- What the contracts of the passes say of a strip that was accepted on entry, in the words of the lines.
 use mathlib.Core.Path.{_≡_, refl, sym, _∙_, ap, ap₂}
-use mathlib.Core.Bool.{Bool, true, false, cond}
+use mathlib.Core.Bool.{true, false}
 use mathlib.Core.Logic.{_⊎_, ⊎-elim}
 use mathlib.Core.List.{List, [], _∷_, _++_, map}
 use mathlib.Core.Option.{Option, none, some}
-use Prim.Native.Nat.{ℕ, zero, suc, _+_, _≤_, _<_, min}
+use Prim.Native.Nat.{ℕ, zero, suc, _+_, _≤_, _<_}
 use native.Mathlib.Omega.{arith}
 use native.Mathlib.Numerals.{add-one}
 use lib.Dec.{leb, eqb}
@@ -16,14 +16,14 @@ use borrow.Author.Tests.{le-leb, eq-eqb, ne-eqb}
 use Rattle.geometry.specs.Lists.{sumList}
 use Rattle.geometry.specs.Mark.{Mark, marksOf}
 use Rattle.geometry.specs.Position.{Position, code}
-use Rattle.geometry.specs.Placing.{IsPlacing, firstPlacing}
+use Rattle.geometry.specs.Placing.{firstPlacing}
 use Rattle.geometry.specs.Sliding.{slidesWhole}
-use Rattle.geometry.specs.Refusal.{Verdict, accepted, refused, numberOf, firstFailure, listTooShort, workTooShort}
+use Rattle.geometry.specs.Refusal.{Verdict, accepted, numberOf, firstFailure, listTooShort, workTooShort}
 use Rattle.geometry.specs.Entry.{entry, entryChecks}
 use Rattle.geometry.specs.Pass.{passVerdict, written}
-use Rattle.geometry.proofs.Split.{by-bool, clash, both}
+use Rattle.geometry.proofs.Split.{by-bool}
 use Rattle.geometry.proofs.Verdicts.{then, failure-append}
-use Rattle.geometry.proofs.Accepted.{Accepted, entry-accepted, accepted-rising, length-marks}
+use Rattle.geometry.proofs.Accepted.{entry-accepted, accepted-rising, length-marks}
 use Rattle.geometry.proofs.Best.{free-length}
 use Rattle.geometry.proofs.Whole.{found-placing}
 use Rattle.geometry.proofs.WholeEdges.{whole-slides, none-slides}

@@ -1,27 +1,18 @@
 -- The lines of a whole strip.
-use mathlib.Core.Path.{_≡_, refl, sym, _∙_, ap}
+use mathlib.Core.Path.{_≡_, sym, _∙_, ap}
 use mathlib.Core.Bool.{Bool, true, false, cond}
-use mathlib.Core.List.{List, [], _∷_, _++_, map, append-assoc}
-use mathlib.Core.Option.{Option, none, some}
-use Prim.Native.Nat.{ℕ, _+_, _*_, _≤_, _<_}
-use native.Mathlib.Omega.{arith}
+use mathlib.Core.List.{List, [], _++_, append-assoc}
+use Prim.Native.Nat.{ℕ, _+_, _≤_, _<_}
 use lib.Dec.{leb}
 use lib.IntN.{ℤ}
-use lib.ListN.{length, take, length-map, length-append}
-use lib.Seq.{take-length}
+use lib.ListN.{length}
 use borrow.Author.Tests.{le-leb, lt-leb}
 use Rattle.geometry.specs.Lists.{sumList}
-use Rattle.geometry.specs.Mark.{Mark, marksOf}
-use Rattle.geometry.specs.Position.{Position, code}
-use Rattle.geometry.specs.Placing.{firstPlacing, bestSum}
+use Rattle.geometry.specs.Mark.{marksOf}
+use Rattle.geometry.specs.Placing.{bestSum}
 use Rattle.geometry.specs.Sliding.{slidesWhole}
-use Rattle.geometry.specs.Refusal.{accepted}
-use Rattle.geometry.specs.Entry.{entry}
 use Rattle.geometry.proofs.Split.{clash}
-use Rattle.geometry.proofs.Accepted.{entry-accepted, length-marks}
-use Rattle.geometry.proofs.Best.{free-length}
-use Rattle.geometry.proofs.Whole.{found-placing}
-use Rattle.listing.specs.Text.{fullWord, lineEnd, fullTail, fullLine, slideLine, bestLine, outLine, tooLongLines, spaced}
+use Rattle.listing.specs.Text.{fullLine, slideLine, bestLine, outLine, tooLongLines}
 use Rattle.listing.specs.inner.Append.{Appended}
 use Rattle.listing.specs.inner.Lines.{BestLines, StripLines}
 use Rattle.listing.proofs.Append.{appended-join}

@@ -14,7 +14,7 @@ use Rattle.geometry.specs.Sliding.{Slides}
 use Rattle.geometry.specs.Pass.{written}
 use Rattle.geometry.specs.Refusal.{refusalNumber, listTooShort}
 use Rattle.best.specs.LeftOut.{ListsLeftOut}
-use Rattle.job.specs.Outcome.{Outcome, given}
+use Rattle.job.specs.Outcome.{given}
 use Rattle.job.specs.Marks.{Marks}
 use Rattle.job.specs.Decode.{decode}
 use Rattle.listing.specs.Text.{listingOf}

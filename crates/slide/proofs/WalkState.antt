@@ -11,9 +11,8 @@ use lib.ListN.{length, getD, take, drop, set, length-map}
 use lib.Seq.{getD-drop, take-length}
 use Rattle.geometry.specs.Dot.{dot}
 use Rattle.geometry.specs.Mark.{Mark}
-use Rattle.geometry.specs.Position.{Side, above, below, sideCode, ownReach, aboveAfter, belowAfter}
+use Rattle.geometry.specs.Position.{Side, sideCode, ownReach, aboveAfter, belowAfter}
 use Rattle.geometry.specs.Sliding.{leftmostEdge, edgesFrom, leftmostEdges}
-use Rattle.geometry.specs.Pass.{written}
 use Rattle.geometry.proofs.Split.{by-leb}
 use Rattle.slide.specs.inner.Plain.{plainMark, plainMarks, atDot, Checked}
 use Rattle.slide.specs.inner.Room.{slidBy, reachAt, reachPast, slideable, noBound, room}

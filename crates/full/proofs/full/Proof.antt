@@ -8,12 +8,6 @@ use borrow.Author.Needs.{needs}
 use Rattle.full.proofs.Answers.{refused-call, ready-to-fill, ready-to-walk, no-placing-call, placing-call}
 use Rattle.full.proofs.full.Statement.{statement}
 use Rattle.full.proofs.full.Tie as tie
-use Rattle.full.proofs.full.Reads as reads
-use Rattle.full.proofs.full.Lts as lts
-use Rattle.full.proofs.table.clear.Reads as clear-reads
-use Rattle.full.proofs.table.fill.Reads as fill-reads
-use Rattle.full.proofs.walk.walk.Reads as walk-reads
-use Rattle.geometry.proofs.entry.check_pass.Reads as check-pass-reads
 
 -- from where the table is filled: the start, its lists, and what the checks on entry said
 abbrev start : tie.After-fill → tie.Start

@@ -3,7 +3,7 @@
 use Prim.Native.Nat.{ℕ, _+_, _≤_}
 use mathlib.Core.List.{List, [], _∷_}
 use Rattle.geometry.specs.Mark.{Mark}
-use Rattle.geometry.specs.Position.{Side, Direction, Position, unlabelled, at, ownReach, aboveAfter, belowAfter}
+use Rattle.geometry.specs.Position.{Position, unlabelled, at, ownReach, aboveAfter, belowAfter}
 use Rattle.geometry.specs.Overlap.{leftEnd, rightEnd}
 
 -- the label of m at p fits beside the reaches a and b

@@ -1,5 +1,5 @@
 -- `labeller::main` is safe and ends: the listing is no longer than the output.
-use mathlib.Core.Path.{_≡_, sym}
+use mathlib.Core.Path.{sym}
 use mathlib.Core.List.{List}
 use Prim.Native.Nat.{ℕ, _≤_}
 use native.Mathlib.Omega.{arith}
@@ -11,11 +11,6 @@ use Rattle.listing.specs.declared.answer.Listed.{Listed}
 use borrow.Author.Needs.{needs}
 use Rattle.labeller.proofs.main.Statement.{statement}
 use Rattle.labeller.proofs.main.Tie as tie
-use Rattle.labeller.proofs.main.Reads as reads
-use Rattle.labeller.proofs.main.Lts as lts
-use Rattle.io.proofs.read_full.Reads as read-full-reads
-use Rattle.io.proofs.write_all.Reads as write-all-reads
-use Rattle.listing.proofs.listing.Reads as listing-reads
 
 -- what is said to be used of the output is within it
 within : {job output output′ : List ℕ} {r : Listed} → ListingContract job output r output′ → r .length ≤ length output

@@ -10,10 +10,6 @@ use Rattle.listing.proofs.Passes.{appended-is}
 use borrow.Author.Needs.{needs}
 use Rattle.listing.proofs.listing.Statement.{statement}
 use Rattle.listing.proofs.listing.Tie as tie
-use Rattle.listing.proofs.listing.Reads as reads
-use Rattle.listing.proofs.listing.Lts as lts
-use Rattle.listing.proofs.put_listing.Reads as put-listing-reads
-use Rattle.listing.proofs.text.put_word.Reads as put-word-reads
 
 -- the text is as long as was said, and so lies within the buffer
 made-long : {job buffer : List ℕ} {next : ℕ} → Listing job buffer next → next ≡ length (take next buffer)

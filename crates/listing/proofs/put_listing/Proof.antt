@@ -9,12 +9,6 @@ use Rattle.listing.proofs.Jobs.{ReadMarks, refused-listing, read-marks,
 use borrow.Author.Needs.{needs}
 use Rattle.listing.proofs.put_listing.Statement.{statement}
 use Rattle.listing.proofs.put_listing.Tie as tie
-use Rattle.listing.proofs.put_listing.Reads as reads
-use Rattle.listing.proofs.put_listing.Lts as lts
-use Rattle.job.proofs.reader.read.Reads as read-reads
-use Rattle.listing.proofs.lines.put_count.Reads as put-count-reads
-use Rattle.listing.proofs.lines.put_refused.Reads as put-refused-reads
-use Rattle.listing.proofs.put_strip.Reads as put-strip-reads
 
 -- the marks of a job that was accepted, and the lists that have them
 abbrev R : tie.Else1 → tie.After-read

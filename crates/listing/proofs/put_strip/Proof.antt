@@ -10,13 +10,6 @@ use Rattle.listing.proofs.Strips.{long-strip, short-strip}
 use borrow.Author.Needs.{needs}
 use Rattle.listing.proofs.put_strip.Statement.{statement}
 use Rattle.listing.proofs.put_strip.Tie as tie
-use Rattle.listing.proofs.put_strip.Reads as reads
-use Rattle.listing.proofs.put_strip.Lts as lts
-use Rattle.listing.proofs.lines.put_best.Reads as put-best-reads
-use Rattle.listing.proofs.lines.put_full.Reads as put-full-reads
-use Rattle.listing.proofs.lines.put_slide.Reads as put-slide-reads
-use Rattle.listing.proofs.lines.put_too_long.Reads as put-too-long-reads
-use Rattle.listing.proofs.lines.slides.Reads as slides-reads
 
 -- from where the full line stands: the start and its strip
 abbrev start : tie.After-put-full → tie.Start

@@ -3,9 +3,6 @@ use Rattle.geometry.proofs.Dots.{told}
 use borrow.Author.Needs.{needs}
 use Rattle.best.proofs.label.fits_beside.Statement.{statement}
 use Rattle.best.proofs.label.fits_beside.Tie as tie
-use Rattle.best.proofs.label.fits_beside.Reads as reads
-use Rattle.best.proofs.label.fits_beside.Lts as lts
-use Rattle.geometry.proofs.order.at_most.Reads as at-most-reads
 
 enum-told : tie.Need-enum-told
 enum-told c = search needs

@@ -11,10 +11,6 @@ use Rattle.best.proofs.Names.{room-between}
 use borrow.Author.Needs.{needs}
 use Rattle.best.proofs.label.has_room.Statement.{statement}
 use Rattle.best.proofs.label.has_room.Tie as tie
-use Rattle.best.proofs.label.has_room.Reads as reads
-use Rattle.best.proofs.label.has_room.Lts as lts
-use Rattle.best.proofs.label.fits_beside.Reads as fits-beside-reads
-use Rattle.geometry.proofs.ends.left_end.Reads as left-end-reads
 
 mul-place : tie.Need-mul-place
 mul-place c = search needs

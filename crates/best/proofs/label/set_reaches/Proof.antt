@@ -7,9 +7,6 @@ use Rattle.geometry.proofs.Dots.{fetched}
 use Rattle.best.proofs.Names.{ReachesBelow, one-more-reach}
 use Rattle.best.proofs.label.set_reaches.Statement.{statement}
 use Rattle.best.proofs.label.set_reaches.Tie as tie
-use Rattle.best.proofs.label.set_reaches.Reads as reads
-use Rattle.best.proofs.label.set_reaches.Lts as lts
-use Rattle.best.proofs.label.reach_of.Reads as reach-of-reads
 
 abbrev Inv-loop : tie.InvT-loop
 Inv-loop places lengths reaches₀ name₀ reaches name = (name ≤ 2 * length places + 2) × (length reaches ≡ length reaches₀) × ReachesBelow places lengths reaches name

@@ -6,9 +6,6 @@ use Rattle.geometry.proofs.Dots.{back, fetched}
 use borrow.Author.Needs.{needs}
 use Rattle.full.proofs.kept.beside_above.Statement.{statement}
 use Rattle.full.proofs.kept.beside_above.Tie as tie
-use Rattle.full.proofs.kept.beside_above.Reads as reads
-use Rattle.full.proofs.kept.beside_above.Lts as lts
-use Rattle.full.proofs.kept.greatest.Reads as greatest-reads
 
 array-copy-out-greatest : tie.Need-array-copy-out-greatest
 array-copy-out-greatest c = search needs

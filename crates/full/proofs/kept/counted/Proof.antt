@@ -6,9 +6,6 @@ use Rattle.full.specs.inner.Row.{countOf}
 use borrow.Author.Needs.{needs}
 use Rattle.full.proofs.kept.counted.Statement.{statement}
 use Rattle.full.proofs.kept.counted.Tie as tie
-use Rattle.full.proofs.kept.counted.Reads as reads
-use Rattle.full.proofs.kept.counted.Lts as lts
-use Rattle.full.proofs.kept.one_if_kept.Reads as one-if-kept-reads
 
 one-if-kept-requires : tie.Need-one-if-kept-requires
 one-if-kept-requires c κs = search needs

@@ -4,11 +4,6 @@ use borrow.Author.Needs.{needs}
 use Rattle.geometry.proofs.Dots.{back, fetched}
 use Rattle.full.proofs.kept.greatest.Statement.{statement}
 use Rattle.full.proofs.kept.greatest.Tie as tie
-use Rattle.full.proofs.kept.greatest.Reads as reads
-use Rattle.full.proofs.kept.greatest.Lts as lts
-use Rattle.full.proofs.kept.allowed.Reads as allowed-reads
-use Rattle.geometry.proofs.order.at_most.Reads as at-most-reads
-use Rattle.geometry.proofs.order.larger.Reads as larger-reads
 
 at-most-requires : tie.Need-at-most-requires
 at-most-requires c κs = search needs

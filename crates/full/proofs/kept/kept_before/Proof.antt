@@ -3,13 +3,6 @@ use Rattle.geometry.proofs.Dots.{back, fetched}
 use borrow.Author.Needs.{needs}
 use Rattle.full.proofs.kept.kept_before.Statement.{statement}
 use Rattle.full.proofs.kept.kept_before.Tie as tie
-use Rattle.full.proofs.kept.kept_before.Reads as reads
-use Rattle.full.proofs.kept.kept_before.Lts as lts
-use Rattle.full.proofs.kept.beside_above.Reads as beside-above-reads
-use Rattle.full.proofs.kept.beside_below.Reads as beside-below-reads
-use Rattle.full.proofs.kept.counted.Reads as counted-reads
-use Rattle.geometry.proofs.ends.left_end.Reads as left-end-reads
-use Rattle.geometry.proofs.ends.right_end.Reads as right-end-reads
 
 left-end-requires : tie.Need-left-end-requires
 left-end-requires c κs = search needs

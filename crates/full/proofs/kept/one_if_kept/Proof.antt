@@ -1,6 +1,6 @@
 -- `full::kept::one_if_kept` meets its contract: the dot of NONE is 0, and no other number's is.
 use mathlib.Core.Path.{_≡_, refl, sym, ap, _∙_}
-use lib.IntN.{ℤ, negsuc}
+use lib.IntN.{negsuc}
 use mir.Syntax.{w16}
 use mir.Val.{toZ, ofZ}
 use native.Mathlib.Omega.{arith}

@@ -1,10 +1,10 @@
 -- `full::table::clear` meets its contract: after i turns the first i numbers are 0 and the rest is as it was.
-use mathlib.Core.Path.{_≡_, refl, sym, _∙_, ap}
-use mathlib.Core.List.{List, _++_}
-use Prim.Native.Nat.{ℕ, _≤_, _-_}
+use mathlib.Core.Path.{_≡_, refl, sym}
+use mathlib.Core.List.{_++_}
+use Prim.Native.Nat.{_≤_, _-_}
 use native.Mathlib.Omega.{arith}
-use lib.IntN.{ℤ, pos}
-use lib.ListN.{length, drop, replicate, length-append, length-replicate, length-drop, length-set}
+use lib.IntN.{pos}
+use lib.ListN.{length, drop, replicate, length-set}
 use Rattle.full.proofs.Fill.{fill-one-more}
 use Rattle.full.proofs.table.clear.Statement.{statement}
 use Rattle.full.proofs.table.clear.Tie as tie

@@ -1,6 +1,6 @@
 -- `full::table::fill` meets its contract: after each turn the rows from the current mark on are right, and `next` is the current
 -- mark's. The measure is the current mark's index.
-use mathlib.Core.Path.{_≡_, refl, sym, _∙_, ap}
+use mathlib.Core.Path.{_≡_, refl, _∙_, ap}
 use mathlib.Core.List.{[], _∷_}
 use Prim.Native.Nat.{ℕ, _-_, _*_}
 use native.Mathlib.Omega.{arith}
@@ -15,10 +15,6 @@ use Rattle.geometry.proofs.Accepted.{every-at}
 use Rattle.full.proofs.Rows.{Filling, filling-last, filling-more, filling-done, drop-sets}
 use Rattle.full.proofs.table.fill.Statement.{statement}
 use Rattle.full.proofs.table.fill.Tie as tie
-use Rattle.full.proofs.table.fill.Reads as reads
-use Rattle.full.proofs.table.fill.Lts as lts
-use Rattle.full.proofs.kept.kept_before.Reads as kept-before-reads
-use Rattle.full.proofs.table.store.Reads as store-reads
 
 abbrev Inv-loop : tie.InvT-loop
 Inv-loop places lengths work₀ next₀ i₀ work next i = Filling places lengths work₀ work (next .reaches) (next .count) i

@@ -1,5 +1,5 @@
 -- `full::table::store` meets its contract: its four stores are those of `sets`.
-use mathlib.Core.Path.{_≡_, refl}
+use mathlib.Core.Path.{refl}
 use native.Mathlib.Omega.{arith}
 use native.Mathlib.Numerals.{add-one, add-two, add-three}
 use lib.IntN.{pos}
@@ -8,8 +8,6 @@ use Rattle.geometry.proofs.Dots.{fetched}
 use borrow.Author.Needs.{needs}
 use Rattle.full.proofs.table.store.Statement.{statement}
 use Rattle.full.proofs.table.store.Tie as tie
-use Rattle.full.proofs.table.store.Reads as reads
-use Rattle.full.proofs.table.store.Lts as lts
 
 mul-at : tie.Need-mul-at
 mul-at c = search needs

@@ -1,5 +1,5 @@
 -- `full::walk::leaves_rest` meets its contract: the first test decides, or the second does.
-use mathlib.Core.Path.{_≡_, refl, sym, _∙_}
+use mathlib.Core.Path.{sym, _∙_}
 use borrow.Author.Needs.{needs}
 use Rattle.geometry.proofs.Dots.{told}
 use Rattle.full.proofs.walk.leaves_rest.Statement.{statement}

@@ -15,11 +15,6 @@ use Rattle.full.proofs.Walks.{Walking, walking-start}
 use Rattle.full.proofs.WalkSteps.{walking-more, walking-done}
 use Rattle.full.proofs.walk.walk.Statement.{statement}
 use Rattle.full.proofs.walk.walk.Tie as tie
-use Rattle.full.proofs.walk.walk.Reads as reads
-use Rattle.full.proofs.walk.walk.Lts as lts
-use Rattle.full.proofs.walk.step.Reads as step-reads
-use Rattle.geometry.proofs.ends.left_end.Reads as left-end-reads
-use Rattle.geometry.proofs.ends.right_end.Reads as right-end-reads
 
 abbrev Inv-loop : tie.InvT-loop
 Inv-loop places lengths work positions₀ at₀ i₀ positions at i = Walking places lengths work positions₀ positions (at .above) (at .below) i

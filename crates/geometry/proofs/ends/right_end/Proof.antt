@@ -1,12 +1,12 @@
 -- `geometry::ends::right_end` meets its contract: an accepted place is more than a length below the greatest 16-bit number.
-use mathlib.Core.Path.{_≡_, refl, sym, _∙_, ap}
-use Prim.Native.Nat.{ℕ, _+_, _<_}
+use mathlib.Core.Path.{_≡_, refl}
+use Prim.Native.Nat.{_+_, _<_}
 use borrow.Author.Needs.{needs}
 use native.Mathlib.Omega.{arith}
-use mir.Syntax.{w8, w16}
-use mir.Val.{SFits, Fits, toZ, ofZ}
+use mir.Syntax.{w16}
+use mir.Val.{toZ, ofZ}
 use mir.ValLaws.{toZ-pos}
-use lib.IntN.{ℤ, pos, _+ℤ_}
+use lib.IntN.{pos, _+ℤ_}
 use Rattle.geometry.specs.Dot.{dot}
 use Rattle.geometry.proofs.Dots.{back, held, dot-add, mag-add, range-dots, range-mag}
 use Rattle.geometry.proofs.ends.right_end.Statement.{statement}

@@ -1,6 +1,5 @@
 -- `geometry::entry::check_marks` meets its contract: each return stands at the first check that is not passed.
-use mathlib.Core.Path.{_≡_, refl, sym, _∙_}
-use mathlib.Core.Bool.{Bool, true, false}
+use mathlib.Core.Path.{refl, sym, _∙_}
 use borrow.Author.Needs.{needs}
 use borrow.Author.Tests.{eq-eqb, ne-eqb, le-leb, lt-leb, not-true, not-false}
 use Rattle.geometry.specs.Refusal.{firstFailure}

@@ -1,7 +1,7 @@
 -- `geometry::entry::check_pass` meets its contract: a refusal on entry stands, and else the first of the two checks that fails.
 use mathlib.Core.Path.{_≡_, refl, sym, _∙_, ap}
 use mathlib.Core.List.{List, [], _∷_}
-use Prim.Native.Nat.{ℕ, _<_, _≤_}
+use Prim.Native.Nat.{ℕ}
 use borrow.Author.Needs.{needs}
 use borrow.Author.Tests.{le-leb, lt-leb}
 use lib.Dec.{leb}

@@ -1,10 +1,5 @@
 -- `geometry::entry::place_in_range` meets its contract: the first bound decides, or the second does.
-use mathlib.Core.Path.{_≡_, refl, sym, ap, _∙_}
-use mathlib.Core.Bool.{Bool, true, false, _&&_}
-use lib.IntN.{ℤ, pos, negsuc}
-use lib.Signed.{leZ}
-use mir.Syntax.{w16}
-use mir.Val.{toZ, ofZ}
+use mathlib.Core.Path.{refl}
 use Rattle.geometry.proofs.Dots.{back}
 use Rattle.geometry.proofs.entry.place_in_range.Statement.{statement}
 use Rattle.geometry.proofs.entry.place_in_range.Tie as tie

@@ -1,10 +1,9 @@
 -- `geometry::entry::weights_in_range` meets its contract: the answer for the whole list is that for what is left of it.
-use mathlib.Core.Path.{_≡_, refl, sym, _∙_, ap}
+use mathlib.Core.Path.{_≡_, refl, sym, _∙_}
 use Prim.Native.Nat.{_≤_, _-_}
 use native.Mathlib.Omega.{arith}
 use borrow.Author.Needs.{needs}
 use borrow.Author.Tests.{not-true, not-false}
-use lib.IntN.{pos}
 use lib.ListN.{length, drop}
 use Rattle.geometry.specs.Lists.{every}
 use Rattle.geometry.specs.Mark.{weightInRange}

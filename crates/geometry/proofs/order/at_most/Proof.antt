@@ -1,5 +1,4 @@
 -- `geometry::order::at_most` meets its contract: both numbers are 16-bit numbers.
-use mathlib.Core.Path.{_≡_, _∙_}
 use Rattle.geometry.proofs.Dots.{back, dot-le}
 use Rattle.geometry.proofs.order.at_most.Statement.{statement}
 use Rattle.geometry.proofs.order.at_most.Tie as tie

@@ -15,12 +15,6 @@ use Rattle.listing.proofs.BestPass.{count-within, best-lines}
 use borrow.Author.Needs.{needs}
 use Rattle.listing.proofs.lines.put_best.Statement.{statement}
 use Rattle.listing.proofs.lines.put_best.Tie as tie
-use Rattle.listing.proofs.lines.put_best.Reads as reads
-use Rattle.listing.proofs.lines.put_best.Lts as lts
-use Rattle.best.proofs.best.Reads as best-reads
-use Rattle.listing.proofs.lines.put_out.Reads as put-out-reads
-use Rattle.listing.proofs.lines.put_sums.Reads as put-sums-reads
-use Rattle.listing.proofs.lines.total_weight.Reads as total-weight-reads
 
 -- from where the pass has answered: the start, its strip and the lent lists
 abbrev start : tie.After-best → tie.Start

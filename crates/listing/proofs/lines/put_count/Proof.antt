@@ -4,10 +4,6 @@ use Rattle.listing.proofs.Append.{appended-join}
 use borrow.Author.Needs.{needs}
 use Rattle.listing.proofs.lines.put_count.Statement.{statement}
 use Rattle.listing.proofs.lines.put_count.Tie as tie
-use Rattle.listing.proofs.lines.put_count.Reads as reads
-use Rattle.listing.proofs.lines.put_count.Lts as lts
-use Rattle.listing.proofs.text.put_number.Reads as put-number-reads
-use Rattle.listing.proofs.text.put_word.Reads as put-word-reads
 
 slice-aggregate-put-word : tie.Need-slice-aggregate-put-word
 slice-aggregate-put-word c = search needs

@@ -13,11 +13,6 @@ use Rattle.listing.proofs.Passes.{appended-is, zeros, accept-zeros, ful
 use borrow.Author.Needs.{needs}
 use Rattle.listing.proofs.lines.put_full.Statement.{statement}
 use Rattle.listing.proofs.lines.put_full.Tie as tie
-use Rattle.listing.proofs.lines.put_full.Reads as reads
-use Rattle.listing.proofs.lines.put_full.Lts as lts
-use Rattle.full.proofs.full.Reads as full-reads
-use Rattle.listing.proofs.lines.put_placing.Reads as put-placing-reads
-use Rattle.listing.proofs.text.put_word.Reads as put-word-reads
 
 -- from where the pass has answered: the start, its strip and the positions
 abbrev start : tie.After-full → tie.Start

@@ -9,10 +9,6 @@ use Rattle.listing.proofs.Passes.{appended-is, out-some}
 use borrow.Author.Needs.{needs}
 use Rattle.listing.proofs.lines.put_out.Statement.{statement}
 use Rattle.listing.proofs.lines.put_out.Tie as tie
-use Rattle.listing.proofs.lines.put_out.Reads as reads
-use Rattle.listing.proofs.lines.put_out.Lts as lts
-use Rattle.listing.proofs.text.put_marks.Reads as put-marks-reads
-use Rattle.listing.proofs.text.put_word.Reads as put-word-reads
 
 slice-aggregate-put-word : tie.Need-slice-aggregate-put-word
 slice-aggregate-put-word c = search needs

@@ -4,10 +4,6 @@ use Rattle.listing.proofs.Append.{appended-join}
 use borrow.Author.Needs.{needs}
 use Rattle.listing.proofs.lines.put_placing.Statement.{statement}
 use Rattle.listing.proofs.lines.put_placing.Tie as tie
-use Rattle.listing.proofs.lines.put_placing.Reads as reads
-use Rattle.listing.proofs.lines.put_placing.Lts as lts
-use Rattle.listing.proofs.text.put_positions.Reads as put-positions-reads
-use Rattle.listing.proofs.text.put_word.Reads as put-word-reads
 
 slice-aggregate-put-word : tie.Need-slice-aggregate-put-word
 slice-aggregate-put-word c = search needs

@@ -6,9 +6,6 @@ use Rattle.listing.proofs.Passes.{appended-is}
 use borrow.Author.Needs.{needs}
 use Rattle.listing.proofs.lines.put_slide.Statement.{statement}
 use Rattle.listing.proofs.lines.put_slide.Tie as tie
-use Rattle.listing.proofs.lines.put_slide.Reads as reads
-use Rattle.listing.proofs.lines.put_slide.Lts as lts
-use Rattle.listing.proofs.text.put_word.Reads as put-word-reads
 
 slice-aggregate-put-word : tie.Need-slice-aggregate-put-word
 slice-aggregate-put-word c = search needs

@@ -3,9 +3,6 @@ use Rattle.listing.specs.Text.{decimal}
 use borrow.Author.Needs.{needs}
 use Rattle.listing.proofs.lines.put_too_long.Statement.{statement}
 use Rattle.listing.proofs.lines.put_too_long.Tie as tie
-use Rattle.listing.proofs.lines.put_too_long.Reads as reads
-use Rattle.listing.proofs.lines.put_too_long.Lts as lts
-use Rattle.listing.proofs.text.put_word.Reads as put-word-reads
 
 slice-aggregate-put-word : tie.Need-slice-aggregate-put-word
 slice-aggregate-put-word c = search needs

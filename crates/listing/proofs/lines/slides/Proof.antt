@@ -11,9 +11,6 @@ use Rattle.listing.proofs.Passes.{zeros, accept-zeros, slide-told}
 use borrow.Author.Needs.{needs}
 use Rattle.listing.proofs.lines.slides.Statement.{statement}
 use Rattle.listing.proofs.lines.slides.Tie as tie
-use Rattle.listing.proofs.lines.slides.Reads as reads
-use Rattle.listing.proofs.lines.slides.Lts as lts
-use Rattle.slide.proofs.slide.Reads as slide-reads
 
 -- from where the pass has answered: the start and its strip
 abbrev start : tie.After-slide → tie.Start

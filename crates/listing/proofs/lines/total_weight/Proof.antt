@@ -7,8 +7,6 @@ use Rattle.geometry.specs.Lists.{sumList}
 use Rattle.listing.proofs.Passes.{sum-step, sum-end}
 use Rattle.listing.proofs.lines.total_weight.Statement.{statement}
 use Rattle.listing.proofs.lines.total_weight.Tie as tie
-use Rattle.listing.proofs.lines.total_weight.Reads as reads
-use Rattle.listing.proofs.lines.total_weight.Lts as lts
 
 abbrev Inv-loop : tie.InvT-loop
 Inv-loop weights total₀ i₀ total i =

@@ -5,9 +5,6 @@ use Rattle.listing.proofs.Append.{appended-none}
 use borrow.Author.Needs.{needs}
 use Rattle.listing.proofs.text.put_digit.Statement.{statement}
 use Rattle.listing.proofs.text.put_digit.Tie as tie
-use Rattle.listing.proofs.text.put_digit.Reads as reads
-use Rattle.listing.proofs.text.put_digit.Lts as lts
-use Rattle.listing.proofs.text.put_byte.Reads as put-byte-reads
 
 returns : tie.Need-returns
 returns c = (rw (lt-leb _ _ (c .if1 .taken)) (appended-none (c .before .before .args .buffer .now) (c .before .before .args .at)), omega arith)

@@ -5,10 +5,6 @@ use Rattle.listing.proofs.Append.{appended-join}
 use borrow.Author.Needs.{needs}
 use Rattle.listing.proofs.text.put_number.Statement.{statement}
 use Rattle.listing.proofs.text.put_number.Tie as tie
-use Rattle.listing.proofs.text.put_number.Reads as reads
-use Rattle.listing.proofs.text.put_number.Lts as lts
-use Rattle.listing.proofs.text.put_byte.Reads as put-byte-reads
-use Rattle.listing.proofs.text.put_digit.Reads as put-digit-reads
 
 put-digit-requires : tie.Need-put-digit-requires
 put-digit-requires c κs = search needs

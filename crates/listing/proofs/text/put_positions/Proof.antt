@@ -4,9 +4,6 @@ use native.Mathlib.Omega.{arith}
 use Rattle.listing.proofs.Append.{Spacing, spacing-none, spacing-more, spacing-done}
 use Rattle.listing.proofs.text.put_positions.Statement.{statement}
 use Rattle.listing.proofs.text.put_positions.Tie as tie
-use Rattle.listing.proofs.text.put_positions.Reads as reads
-use Rattle.listing.proofs.text.put_positions.Lts as lts
-use Rattle.listing.proofs.text.put_spaced.Reads as put-spaced-reads
 
 abbrev Inv-loop : tie.InvT-loop
 Inv-loop buffer₀ at positions count next₀ i₀ buffer next i = Spacing buffer₀ at positions count buffer next i

@@ -4,10 +4,6 @@ use Rattle.listing.proofs.Append.{appended-join}
 use borrow.Author.Needs.{needs}
 use Rattle.listing.proofs.text.put_spaced.Statement.{statement}
 use Rattle.listing.proofs.text.put_spaced.Tie as tie
-use Rattle.listing.proofs.text.put_spaced.Reads as reads
-use Rattle.listing.proofs.text.put_spaced.Lts as lts
-use Rattle.listing.proofs.text.put_byte.Reads as put-byte-reads
-use Rattle.listing.proofs.text.put_number.Reads as put-number-reads
 
 put-byte-requires : tie.Need-put-byte-requires
 put-byte-requires c κs = search needs

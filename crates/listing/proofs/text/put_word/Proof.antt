@@ -1,15 +1,13 @@
 -- `listing::text::put_word` meets its contract: after i turns the first i bytes of the word stand behind the text.
-use mathlib.Core.Path.{_≡_, refl, sym, _∙_, ap}
+use mathlib.Core.Path.{_≡_, refl}
 use Prim.Native.Nat.{_+_, _-_, _≤_}
 use native.Mathlib.Omega.{arith}
-use lib.ListN.{length, getD, take, length-set}
+use lib.ListN.{length, take, length-set}
 use lib.Seq.{take-all}
 use Rattle.listing.specs.inner.Append.{Appended}
 use Rattle.listing.proofs.Append.{appended-none, appended-more}
 use Rattle.listing.proofs.text.put_word.Statement.{statement}
 use Rattle.listing.proofs.text.put_word.Tie as tie
-use Rattle.listing.proofs.text.put_word.Reads as reads
-use Rattle.listing.proofs.text.put_word.Lts as lts
 
 abbrev Inv-loop : tie.InvT-loop
 Inv-loop buffer₀ at word i₀ buffer i =
