@@ -1,8 +1,7 @@
 // The table of kept part layouts in the work area: four numbers a mark, filled from the last mark to the first.
 ghost use mathlib.Core.Path.{_≡_};
-ghost use mathlib.Core.Bool.{true};
 ghost use mathlib.Core.List.{_++_};
-ghost use Prim.Native.Nat.{ℕ, _+_, _*_, _≤_, _<_};
+ghost use Prim.Native.Nat.{_+_, _*_, _≤_, _<_};
 ghost use lib.IntN.{pos};
 ghost use lib.ListN.{length, drop, replicate};
 ghost use lib.Seq.{sets};

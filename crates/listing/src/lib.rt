@@ -6,7 +6,6 @@ mod text;
 ghost use Prim.Native.Nat.{_≤_};
 ghost use lib.ListN.{length};
 ghost use Rattle.listing.specs.Listing.{ListingContract};
-ghost use Rattle.listing.specs.inner.Append.{Appended};
 ghost use Rattle.listing.specs.inner.Lines.{Ready, StripLines, Listing};
 use answer::Listed;
 
