@@ -1,8 +1,5 @@
 -- `listing::lines::put_slide` meets its contract: the word for each of the two cases.
-use mathlib.Core.Path.{sym, ap}
 use native.Mathlib.Omega.{arith}
-use Rattle.listing.specs.Text.{slideLine}
-use Rattle.listing.proofs.Passes.{appended-is}
 use borrow.Author.Needs.{needs}
 use Rattle.listing.proofs.lines.put_slide.Statement.{statement}
 use Rattle.listing.proofs.lines.put_slide.Tie as tie
@@ -17,7 +14,7 @@ same-length : tie.Need-same-length
 same-length c = search needs
 
 returns : tie.Need-returns
-returns c = (appended-is (c .before .before .put-word .ensures) (ap slideLine (sym (c .before .before .before .before .before .if1 .taken))), omega (arith, c .before .before .put-word .ensures .next-is))
+returns c = (rw (c .before .before .before .before .before .if1 .taken) (c .before .before .put-word .ensures), omega (arith, c .before .before .put-word .ensures .next-is))
 
 slice-aggregate-put-word-2 : tie.Need-slice-aggregate-put-word-2
 slice-aggregate-put-word-2 c = search needs
@@ -29,7 +26,7 @@ same-length-2 : tie.Need-same-length-2
 same-length-2 c = search needs
 
 returns-2 : tie.Need-returns-2
-returns-2 c = (appended-is (c .before .before .put-word2 .ensures) (ap slideLine (sym (c .before .before .before .before .before .if1 .left))), omega (arith, c .before .before .put-word2 .ensures .next-is))
+returns-2 c = (rw (c .before .before .before .before .before .if1 .left) (c .before .before .put-word2 .ensures), omega (arith, c .before .before .put-word2 .ensures .next-is))
 
 pub put-slide-spec : {M : Type 1} → statement M
 put-slide-spec =
