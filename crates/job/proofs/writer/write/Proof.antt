@@ -30,7 +30,8 @@ abbrev start : tie.Else1 → tie.Start
 start c = c .before .before .before .before .before
 
 entered : (c : tie.Else1) → entry 4000 (start c .args .places .now) (start c .args .lengths .now) (start c .args .weights .now) ≡ accepted
-entered c = zero-accepted _ (sym (c .before .check-marks .ensures) ∙ c .if1 .left)
+entered c =
+    zero-accepted (entry 4000 (start c .args .places .now) (start c .args .lengths .now) (start c .args .weights .now)) (sym (c .before .check-marks .ensures) ∙ c .if1 .left)
 
 good : (c : tie.Else1) → Good (start c .args .places .now) (start c .args .lengths .now) (start c .args .weights .now) × (length (start c .args .places .now) ≤ 4000)
 good c = entry-good (start c .args .places .now) (start c .args .lengths .now) (start c .args .weights .now) (entered c)
