@@ -30,9 +30,6 @@ pub says-given : {A : Type 0} (n : ℕ) (d : Outcome A) (P : A → Type 0) → S
 says-given n (given a) P s h = record { value = a; is = refl; holds = s .1 }
 says-given n (refusal r) P s h = absurd (refusal-nonzero r (sym s ∙ h))
 
-pub refused-says : {A : Type 0} (n : ℕ) (d : Outcome A) (P : A → Type 0) → IsRefused n d → Says n d P
-refused-says n d P e = rw (e .is) (e .number)
-
 -- a refusal that is handed on
 pub passed-on : {A : Type 0} (n m : ℕ) (d : Outcome A) (P : A → Type 0) → n ≡ m → IsRefused m d → Says n d P
 passed-on n m d P e q = rw (q .is) (e ∙ q .number)

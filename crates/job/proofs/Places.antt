@@ -93,10 +93,6 @@ unfolding wordOf
 word-fits (pos n) h = omega arith
 word-fits (negsuc n) h = omega arith
 
-pub signed-mag : (w : ℕ) → w < 65536 → mag (signed w) < 32768
-unfolding signed
-signed-mag w h = by-ltb w 32768 (λ t. mag (cond t (pos w) (negsuc (65535 - w))) < 32768) (λ k. omega arith) (λ k. omega arith)
-
 -- a number that went through 32 bits is itself
 pub wide-held : {z : ℤ} → mag z < 2147483648 → SFits w32 z
 wide-held h = record { sfits = h }
