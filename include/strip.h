@@ -13,6 +13,19 @@
  * Every call returns 0 or the number of the first check that is not passed, and sets its out values at every return: to 0 at every
  * refusal. Except for the work area at refusal 11, a refusal changes no list. Elements that a call is not said to write are
  * unchanged. No call keeps a pointer, allocates memory or holds state of its own, so calls on separate buffers may run at once.
+ *
+ * The archive, target/staticlib/libexports.a, is an `ar` archive of one ELF object for x86-64 with the System V calling
+ * convention: some 8,000 bytes, of them 5,500 code and constants, and no variables. It leaves one symbol undefined, memset. It
+ * links into position-independent and into static programs. It uses SSE2 registers, and the 128 bytes below the stack pointer
+ * that the convention keeps free: an interrupt on the same stack must leave both as they were.
+ *
+ * Steps for n marks, at most, as the loops go (read off the code, not proved; a step is a few comparisons):
+ *   - every pass and the writer: 4n for the checks on entry;
+ *   - full: n to fill its table, n to walk, and 20,000 to clear the work area;
+ *   - slide: 482n to fill its table, n to walk, and 30,000 to clear the work area;
+ *   - best: 2n(n + 1)(2n + 1)/3 cells with five offers each (295,240 cells at 60 marks), 2n + 2 to prepare, 4n to walk, n to list
+ *     the left-out marks, and 30,000 to clear the work area twice;
+ *   - reader and writer: 2n records, since each is looked at twice.
  */
 #ifndef STRIP_H
 #define STRIP_H
@@ -23,6 +36,9 @@
 #ifdef __cplusplus
 extern "C" {
 #endif
+
+/* Grows by one with each change of a signature or of an answer. */
+#define STRIP_VERSION 1
 
 /* What a call returns. */
 #define STRIP_ACCEPTED 0
@@ -57,6 +73,13 @@ extern "C" {
 #define STRIP_WORK_FULL 20000
 #define STRIP_WORK_SLIDE 30000
 #define STRIP_WORK_BEST 15000
+
+/* Stack in bytes, at most, below a call's return address, beside what memset takes. Measured by host/stack.c, not proved. */
+#define STRIP_STACK_FULL 128
+#define STRIP_STACK_SLIDE 128
+#define STRIP_STACK_BEST 512
+#define STRIP_STACK_READ 128
+#define STRIP_STACK_WRITE 128
 
 /* The positions of a label, and the sides of a sliding one. */
 #define STRIP_UNLABELLED 0

@@ -13,7 +13,8 @@ mod timing;
 
 use lists::Lists;
 use random::Random;
-use strips::{any_strip, fitting_strip, Shape, Strip};
+use std::ops::Range;
+use strips::{fitting_strip, Shape, Strip};
 use timing::{growth, row};
 
 const SHORT: Shape = Shape { gap: 14, length: 20 };
@@ -29,14 +30,14 @@ fn fitting(strips: usize, marks: usize, shape: Shape) -> Vec<Strip> {
     made.filter(|strip| strip.places.len() == marks).take(strips).collect()
 }
 
-// Strips whose first marks have no placing, so that the table is filled whole and the answer is 11.
-fn crowded(strips: usize, marks: usize) -> Vec<Strip> {
-    let made = (1..=strips as u64).map(|seed| any_strip(&mut Random::new(seed), marks, SHORT));
-    made.map(|mut strip| {
-        strip.lengths[..30].fill(240);
+// The strips with labels of some marks so long that these have no placing.
+fn crowded(strips: &[Strip], marks: Range<usize>) -> Vec<Strip> {
+    let crowd = |strip: &Strip| {
+        let mut strip = strip.clone();
+        strip.lengths[marks.clone()].fill(240);
         strip
-    })
-    .collect()
+    };
+    strips.iter().map(crowd).collect()
 }
 
 // The jobs of strips.
@@ -96,11 +97,13 @@ fn main() {
     let whole = fitting(MANY, 4_000, SHORT);
     let short = fitting(MANY, 60, SHORT);
     let long = fitting(MANY, 60, LONG);
-    let (crowded, few, few_long) = (crowded(MANY, 4_000), &short[..FEW], &long[..FEW]);
+    let (front, end) = (crowded(&whole, 0..30), crowded(&whole, 3_970..4_000));
+    let (few, few_long) = (&short[..FEW], &long[..FEW]);
     let rows = [
         row("full, 2,000 marks", &half, &jobs(&half), 0, full, plain_full),
         row("full, 4,000 marks", &whole, &jobs(&whole), 0, full, plain_full),
-        row("full, 4,000 marks, no placing", &crowded, &jobs(&crowded), 11, full, plain_full),
+        row("full, 4,000 marks, no placing of the first 30", &front, &jobs(&front), 11, full, plain_full),
+        row("full, 4,000 marks, no placing of the last 30", &end, &jobs(&end), 11, full, plain_full),
         row("slide, 60 marks, lengths to 20", &short, &jobs(&short), 0, slide, plain_slide),
         row("slide, 60 marks, lengths to 240", &long, &jobs(&long), 0, slide, plain_slide),
         row("best, 60 marks, lengths to 20", few, &jobs(few), 0, best, plain_best),

@@ -1,9 +1,9 @@
 // The groups of strips and jobs. Each must meet every number that it names, so that no group passes by trying nothing.
 use crate::codec::Job;
 use crate::marks::{damage_strip, some_call, Call, Limits};
-use crate::near::some_strip;
+use crate::near::{any_strip, some_strip};
 use crate::random::Random;
-use crate::strips::{any_strip, fitting_strip, Shape, Strip};
+use crate::strips::{fitting_strip, Shape, Strip};
 use crate::{best, full, job, slide};
 use std::fmt::Debug;
 

@@ -1,6 +1,19 @@
 // Strips on both sides of the line between those that fit and those that do not.
 use crate::random::Random;
-use crate::strips::{any_strip, fitting_strip, Shape, Strip};
+use crate::strips::{at_some_place, fitting_strip, Shape, Strip};
+
+pub fn any_strip(random: &mut Random, marks: usize, shape: Shape) -> Strip {
+    let widest = shape.gap.min(60_000 / marks.max(1) as i32).max(1);
+    let mut offset = 0;
+    let mut offsets = Vec::new();
+    let mut lengths = Vec::new();
+    for _ in 0..marks {
+        offsets.push(offset);
+        lengths.push(random.between(1, shape.length) as u8);
+        offset += random.between(1, widest);
+    }
+    at_some_place(random, &offsets, lengths)
+}
 
 // A strip that is about to fit or not: one that fits, with some labels lengthened.
 fn near_strip(random: &mut Random, marks: usize, shape: Shape) -> Strip {

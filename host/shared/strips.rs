@@ -1,4 +1,4 @@
-// Strips to try: any at all, and strips that have a placing because they are built around one.
+// Strips, and such as have a placing because they are built around one.
 use crate::random::Random;
 
 #[derive(Clone, Debug, PartialEq)]
@@ -16,7 +16,7 @@ pub struct Shape {
 }
 
 // Marks at offsets from the first one, moved to a place in the range where all of them lie in it.
-fn at_some_place(random: &mut Random, offsets: &[i32], lengths: Vec<u8>) -> Strip {
+pub fn at_some_place(random: &mut Random, offsets: &[i32], lengths: Vec<u8>) -> Strip {
     let span = offsets.last().copied().unwrap_or(0);
     let first = match random.below(4) {
         0 => -30_000,
@@ -29,19 +29,6 @@ fn at_some_place(random: &mut Random, offsets: &[i32], lengths: Vec<u8>) -> Stri
         weights: lengths.iter().map(|_| random.between(1, heaviest) as u16).collect(),
         lengths,
     }
-}
-
-pub fn any_strip(random: &mut Random, marks: usize, shape: Shape) -> Strip {
-    let widest = shape.gap.min(60_000 / marks.max(1) as i32).max(1);
-    let mut offset = 0;
-    let mut offsets = Vec::new();
-    let mut lengths = Vec::new();
-    for _ in 0..marks {
-        offsets.push(offset);
-        lengths.push(random.between(1, shape.length) as u8);
-        offset += random.between(1, widest);
-    }
-    at_some_place(random, &offsets, lengths)
 }
 
 // The longest label that a mark at `place` can have on a side that reaches to `reach`, 0 for none.

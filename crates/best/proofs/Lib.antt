@@ -1,10 +1,13 @@
 -- Laws that belong to no one function, in reading order.
-pub mod Worth
-pub mod Names
-pub mod Trials
-pub mod Cells
-pub mod Renewal
-pub mod Lent
-pub mod Walked
-pub mod Zeros
-pub mod Answers
+pub mod WorthIsBest
+pub mod SumsAreSmall
+pub mod PositionTests
+pub mod NamedReaches
+pub mod TrialsInTurn
+pub mod CellsHoldWorth
+pub mod TableRenewed
+pub mod RenewedInParts
+pub mod CellsAreSmall
+pub mod WalkIsBest
+pub mod ZerosAreLeftOut
+pub mod Contract

@@ -1,45 +1,45 @@
 // The best pass: labels in four positions for marks that may go without one, with the greatest sum of weights.
 pub mod answer;
-mod label;
-mod memory;
+mod name;
+mod position;
+mod room;
 mod table;
 mod walk;
+mod work;
 
 use answer::Best;
 use geometry::entry::check_pass;
-use geometry::order::smaller;
-use label::NAMES;
-ghost use mathlib.Core.List.{map};
-ghost use mathlib.Core.Path.{_≡_};
+use geometry::limits::MOST_SHORT;
+use geometry::numbers::smaller;
+use name::NAMES;
 ghost use Prim.Native.Nat.{_≤_};
 ghost use lib.ListN.{length};
-ghost use Rattle.geometry.specs.Mark.{marksOf};
-ghost use Rattle.geometry.specs.Pass.{written, cleared};
-ghost use Rattle.geometry.specs.Position.{code};
-ghost use Rattle.best.specs.Best.{BestContract, lent};
-ghost use Rattle.best.specs.inner.Table.{Strip, Ready};
-ghost use Rattle.best.specs.inner.Worth.{worth, bestFrom};
+ghost use Rattle.geometry.specs.Strip.{strip};
+ghost use Rattle.best.specs.Best.{BestContract, bestLent};
+ghost use Rattle.best.specs.inner.Checked.{Checked, Ready, Labelled};
 
-const MOST_MARKS: usize = 60;
-
-const NAMED: usize = 15000;
+// How many numbers of the work area document 01 names.
+pub const WORK_NAMED: usize = 15000;
 
 // The positions and their sum, by the table and the walk; leaves zeros in the work area.
 fn fill_and_walk(
     places: &[i16],
     lengths: &[u8],
     weights: &[u16],
-    reaches: &[i16],
+    reaches: &[u16],
     positions: &mut [u8],
     work: &mut [u32],
 ) -> u32
-    requires { ⌜ Ready (now places) (now lengths) (now weights) (now reaches) (now work) ⌝ ∗ ⌜ length (now places) ≤ length (now positions) ⌝ }
-    ensures { λ r. ⌜ now (positions .exit) ≡ written (map code (bestFrom 0 1 1 (marksOf (now (places .entry)) (now (lengths .entry)) (now (weights .entry))))) (now (positions .entry)) ⌝ ∗ ⌜ r ≡ worth 0 1 1 (marksOf (now (places .entry)) (now (lengths .entry)) (now (weights .entry))) ⌝ ∗ ⌜ now (work .exit) ≡ cleared 15000 0 (now (work .entry)) ⌝ }
+    requires { ⌜ Ready (strip (now places) (now lengths) (now weights)) (now reaches) (now work) ⌝
+        ∗ ⌜ length (now places) ≤ length (now positions) ⌝ }
+    ensures { λ r. ⌜ Labelled
+        (strip (now (places .entry)) (now (lengths .entry)) (now (weights .entry))) (now (positions .entry))
+        (now (positions .exit)) (now (work .entry)) (now (work .exit)) r ⌝ }
 {
     table::fill(places, lengths, weights, reaches, work);
     walk::place_labels(places, lengths, weights, reaches, positions, work);
     let sum = work[0];
-    memory::clear(work);
+    work::clear(work);
     sum
 }
 
@@ -51,16 +51,22 @@ fn label_marks(
     positions: &mut [u8],
     work: &mut [u32],
 ) -> u32
-    requires { ⌜ Strip (now places) (now lengths) (now weights) (now work) ⌝ ∗ ⌜ length (now places) ≤ length (now positions) ⌝ }
-    ensures { λ r. ⌜ now (positions .exit) ≡ written (map code (bestFrom 0 1 1 (marksOf (now (places .entry)) (now (lengths .entry)) (now (weights .entry))))) (now (positions .entry)) ⌝ ∗ ⌜ r ≡ worth 0 1 1 (marksOf (now (places .entry)) (now (lengths .entry)) (now (weights .entry))) ⌝ ∗ ⌜ now (work .exit) ≡ cleared 15000 0 (now (work .entry)) ⌝ }
+    requires { ⌜ Checked (strip (now places) (now lengths) (now weights)) (now work) ⌝ ∗ ⌜ length (now places) ≤ length (now positions) ⌝ }
+    ensures { λ r. ⌜ Labelled
+        (strip (now (places .entry)) (now (lengths .entry)) (now (weights .entry))) (now (positions .entry))
+        (now (positions .exit)) (now (work .entry)) (now (work .exit)) r ⌝ }
 {
-    let mut reaches = [0i16; NAMES];
-    label::set_reaches(places, lengths, &mut reaches);
+    let mut reaches = [0u16; NAMES];
+    name::set_reaches(places, lengths, &mut reaches);
     fill_and_walk(places, lengths, weights, &reaches, positions, work)
 }
 
 // A choice with the greatest sum of an overlap-free choice. `positions` gets a position for each mark, 0 for none; `left_out` the
-// numbers of the marks at 0. The first 15,000 numbers of `work` end as zeros. A refusal changes nothing.
+// numbers of the marks at 0. The named part of `work` ends as zeros. A refusal changes nothing.
+//
+// Steps for n marks: the cells renewed for mark k, counted from 0, are (2k + 2)², in all 2n(n + 1)(2n + 1) / 3, with five offers
+// each; besides these the work area is cleared twice, 2n + 2 reaches are set, and the walk and the listing try at most 5n times.
+// At 60 marks that is 5 · 295,240 + 2 · 15,000 + 122 + 300 = 1,506,622.
 pub fn best(
     places: &[i16],
     lengths: &[u8],
@@ -69,16 +75,19 @@ pub fn best(
     left_out: &mut [u16],
     work: &mut [u32],
 ) -> Best
-    ensures { λ r. ⌜ BestContract (now (places .entry)) (now (lengths .entry)) (now (weights .entry)) (lent (now (positions .entry)) (now («left_out» .entry)) (now (work .entry))) (lent (now (positions .exit)) (now («left_out» .exit)) (now (work .exit))) r ⌝ }
+    ensures { λ r. ⌜ BestContract
+        (strip (now (places .entry)) (now (lengths .entry)) (now (weights .entry)))
+        (bestLent (now (positions .entry)) (now («left_out» .entry)) (now (work .entry)))
+        (bestLent (now (positions .exit)) (now («left_out» .exit)) (now (work .exit))) r ⌝ }
 {
     let shortest = smaller(positions.len(), left_out.len());
     let number = check_pass(
         places,
         lengths,
         weights,
-        MOST_MARKS,
+        MOST_SHORT,
         shortest,
-        NAMED,
+        WORK_NAMED,
         work.len(),
     );
     if number != 0 {

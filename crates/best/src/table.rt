@@ -1,51 +1,45 @@
-// The table: for each pair of last labels, 122 names above and 122 below, the most that the marks after them can still earn.
-// At 60 marks cells are renewed 295,240 times, with five offers each: some 1.5 million steps.
-use crate::label;
-use crate::label::NAMES;
-use crate::label::Position;
-use crate::memory;
+// The table: for each pair of last labels, one above and one below, the most that the marks after them can still earn.
+use crate::name::NAMES;
+use crate::name::last_after;
+use crate::position::Position;
+use crate::position::is_above;
+use crate::position::is_below;
+use crate::position::is_labelled;
+use crate::position::position_at;
+use crate::room::has_room;
+use crate::work;
+use geometry::numbers::larger_u32;
 ghost use mathlib.Core.Path.{_≡_};
-ghost use mathlib.Core.Bool.{cond};
-ghost use Prim.Native.Nat.{suc, _+_, _*_, _≤_, _<_, max};
+ghost use Prim.Native.Nat.{suc, _*_, _<_};
 ghost use lib.ListN.{length, getD, drop};
-ghost use Rattle.geometry.specs.Lists.{greatestOf};
-ghost use Rattle.geometry.specs.Position.{everyPosition};
+ghost use Rattle.geometry.specs.Strip.{strip};
+ghost use Rattle.best.specs.Best.{workNamed};
+ghost use Rattle.best.specs.inner.Positions.{positionOf};
 ghost use Rattle.best.specs.inner.Worth.{earnedBy};
-ghost use Rattle.best.specs.inner.Names.{positionOf};
-ghost use Rattle.best.specs.inner.Table.{Partly, Filled, Ready, Beside, Light, roomAt, gainAt};
-
-fn larger(a: u32, b: u32) -> u32
-    ensures { λ r. ⌜ r ≡ max a b ⌝ }
-{
-    if a < b {
-        return b;
-    }
-    a
-}
+ghost use Rattle.best.specs.inner.Names.{names, namesBefore};
+ghost use Rattle.best.specs.inner.Checked.{Ready};
+ghost use Rattle.best.specs.inner.Table.{cellOf, Filled, Renewing, Renewed};
+ghost use Rattle.best.specs.inner.Trial.{GainAsked, BeforeMark, gainAt, offerAt, mostAt};
 
 // What mark k, counted from 0, earns at p.
-pub fn earned(weights: &[u16], k: usize, p: Position) -> u32
+pub fn earned(weights: &[u16], k: usize, p: Position) -> u16
     requires { ⌜ k < length (now weights) ⌝ }
-    ensures { λ r. ⌜ r ≡ earnedBy (getD (now (weights .entry)) k 0) (positionOf p) ⌝ ∗ ⌜ r ≤ 65535 ⌝ }
+    ensures { λ r. ⌜ r ≡ earnedBy (getD (now (weights .entry)) k 0) (positionOf p) ⌝ }
 {
-    let weight = weights[k] as u32;
-    match p {
-        Position::Unlabelled => 0,
-        Position::AboveLeft => weight,
-        Position::AboveRight => weight,
-        Position::BelowLeft => weight,
-        Position::BelowRight => weight,
+    if is_labelled(p) {
+        return weights[k];
     }
+    0
 }
 
 // What mark k at p and the marks after it earn, by the table.
 pub fn gain(weights: &[u16], work: &[u32], k: usize, p: Position, above: usize, below: usize) -> u32
-    requires { ⌜ k < length (now weights) ⌝ ∗ ⌜ k < 60 ⌝ ∗ ⌜ (above < 122) × (below < 122) ⌝ ∗ ⌜ 15000 ≤ length (now work) ⌝ ∗ ⌜ Light (now work) k above below ⌝ }
+    requires { ⌜ GainAsked (now weights) (now work) k above below ⌝ }
     ensures { λ r. ⌜ r ≡ gainAt (now (weights .entry)) (now (work .entry)) k above below (positionOf p) ⌝ }
 {
-    let x = label::above_after(k, p, above);
-    let y = label::below_after(k, p, below);
-    earned(weights, k, p) + work[x * NAMES + y]
+    let x = last_after(is_above(p), k, p, above);
+    let y = last_after(is_below(p), k, p, below);
+    earned(weights, k, p) as u32 + work[x * NAMES + y]
 }
 
 // The same where there is room, and 0 where there is none.
@@ -53,17 +47,19 @@ fn offer(
     places: &[i16],
     lengths: &[u8],
     weights: &[u16],
-    reaches: &[i16],
+    reaches: &[u16],
     work: &[u32],
     k: usize,
     p: Position,
     above: usize,
     below: usize,
 ) -> u32
-    requires { ⌜ Ready (now places) (now lengths) (now weights) (now reaches) (now work) ⌝ ∗ ⌜ Beside (now places) k above below ⌝ ∗ ⌜ Light (now work) k above below ⌝ }
-    ensures { λ r. ⌜ r ≡ cond (roomAt 0 (now (places .entry)) (now (lengths .entry)) (now (weights .entry)) k above below (positionOf p)) (gainAt (now (weights .entry)) (now (work .entry)) k above below (positionOf p)) 0 ⌝ }
+    requires { ⌜ BeforeMark (strip (now places) (now lengths) (now weights)) (now reaches) (now work) k above below ⌝ }
+    ensures { λ r. ⌜ r ≡ offerAt 0
+        (strip (now (places .entry)) (now (lengths .entry)) (now (weights .entry)))
+        (now (work .entry)) k above below (positionOf p) ⌝ }
 {
-    if label::has_room(places, lengths, reaches, k, p, above, below) {
+    if has_room(places, lengths, reaches, k, p, above, below) {
         return gain(weights, work, k, p, above, below);
     }
     0
@@ -74,20 +70,20 @@ fn most(
     places: &[i16],
     lengths: &[u8],
     weights: &[u16],
-    reaches: &[i16],
+    reaches: &[u16],
     work: &[u32],
     k: usize,
     above: usize,
     below: usize,
 ) -> u32
-    requires { ⌜ Ready (now places) (now lengths) (now weights) (now reaches) (now work) ⌝ ∗ ⌜ Beside (now places) k above below ⌝ ∗ ⌜ Light (now work) k above below ⌝ }
-    ensures { λ r. ⌜ r ≡ greatestOf (roomAt 0 (now (places .entry)) (now (lengths .entry)) (now (weights .entry)) k above below) (gainAt (now (weights .entry)) (now (work .entry)) k above below) everyPosition ⌝ }
+    requires { ⌜ BeforeMark (strip (now places) (now lengths) (now weights)) (now reaches) (now work) k above below ⌝ }
+    ensures { λ r. ⌜ r ≡ mostAt 0 (strip (now (places .entry)) (now (lengths .entry)) (now (weights .entry))) (now (work .entry)) k above below ⌝ }
 {
     let mut best = 0;
     let mut i = 0;
     while i < 5 {
-        let p = label::position_at(i);
-        best = larger(
+        let p = position_at(i);
+        best = larger_u32(
             best,
             offer(places, lengths, weights, reaches, work, k, p, above, below),
         );
@@ -101,14 +97,17 @@ fn renew_cell(
     places: &[i16],
     lengths: &[u8],
     weights: &[u16],
-    reaches: &[i16],
+    reaches: &[u16],
     work: &mut [u32],
     k: usize,
     above: usize,
     below: usize,
 )
-    requires { ⌜ Ready (now places) (now lengths) (now weights) (now reaches) (now work) ⌝ ∗ ⌜ k < length (now places) ⌝ ∗ ⌜ (above < 2 * k + 2) × (below < 2 * k + 2) ⌝ ∗ ⌜ Partly 0 (now places) (now lengths) (now weights) k (above * 122 + below) (now work) ⌝ }
-    ensures { λ r. ⌜ Partly 0 (now (places .entry)) (now (lengths .entry)) (now (weights .entry)) k (suc (above * 122 + below)) (now (work .exit)) ⌝ ∗ ⌜ drop 15000 (now (work .exit)) ≡ drop 15000 (now (work .entry)) ⌝ }
+    requires { ⌜ Renewing (strip (now places) (now lengths) (now weights)) (now reaches) (now work) k (cellOf above below) ⌝
+        ∗ ⌜ (above < namesBefore k) × (below < namesBefore k) ⌝ }
+    ensures { λ _. ⌜ Renewed
+        (strip (now (places .entry)) (now (lengths .entry)) (now (weights .entry)))
+        k (suc (cellOf above below)) (now (work .entry)) (now (work .exit)) ⌝ }
 {
     work[above * NAMES + below] = most(places, lengths, weights, reaches, work, k, above, below);
 }
@@ -118,13 +117,15 @@ fn renew_row(
     places: &[i16],
     lengths: &[u8],
     weights: &[u16],
-    reaches: &[i16],
+    reaches: &[u16],
     work: &mut [u32],
     k: usize,
     above: usize,
 )
-    requires { ⌜ Ready (now places) (now lengths) (now weights) (now reaches) (now work) ⌝ ∗ ⌜ k < length (now places) ⌝ ∗ ⌜ above < 2 * k + 2 ⌝ ∗ ⌜ Partly 0 (now places) (now lengths) (now weights) k (above * 122) (now work) ⌝ }
-    ensures { λ r. ⌜ Partly 0 (now (places .entry)) (now (lengths .entry)) (now (weights .entry)) k (suc above * 122) (now (work .exit)) ⌝ ∗ ⌜ drop 15000 (now (work .exit)) ≡ drop 15000 (now (work .entry)) ⌝ }
+    requires { ⌜ Renewing (strip (now places) (now lengths) (now weights)) (now reaches) (now work) k (above * names) ⌝ ∗ ⌜ above < namesBefore k ⌝ }
+    ensures { λ _. ⌜ Renewed
+        (strip (now (places .entry)) (now (lengths .entry)) (now (weights .entry)))
+        k (suc above * names) (now (work .entry)) (now (work .exit)) ⌝ }
 {
     let mut below = 0;
     while below < 2 * k + 2 {
@@ -138,12 +139,14 @@ fn renew(
     places: &[i16],
     lengths: &[u8],
     weights: &[u16],
-    reaches: &[i16],
+    reaches: &[u16],
     work: &mut [u32],
     k: usize,
 )
-    requires { ⌜ Ready (now places) (now lengths) (now weights) (now reaches) (now work) ⌝ ∗ ⌜ k < length (now places) ⌝ ∗ ⌜ Filled 0 (now places) (now lengths) (now weights) (suc k) (now work) ⌝ }
-    ensures { λ r. ⌜ Filled 0 (now (places .entry)) (now (lengths .entry)) (now (weights .entry)) k (now (work .exit)) ⌝ ∗ ⌜ drop 15000 (now (work .exit)) ≡ drop 15000 (now (work .entry)) ⌝ }
+    requires { ⌜ Renewing (strip (now places) (now lengths) (now weights)) (now reaches) (now work) k 0 ⌝ }
+    ensures { λ _. ⌜ Renewed
+        (strip (now (places .entry)) (now (lengths .entry)) (now (weights .entry)))
+        k (namesBefore k * names) (now (work .entry)) (now (work .exit)) ⌝ }
 {
     let mut above = 0;
     while above < 2 * k + 2 {
@@ -153,11 +156,12 @@ fn renew(
 }
 
 // The table, from the last mark to the first.
-pub fn fill(places: &[i16], lengths: &[u8], weights: &[u16], reaches: &[i16], work: &mut [u32])
-    requires { ⌜ Ready (now places) (now lengths) (now weights) (now reaches) (now work) ⌝ }
-    ensures { λ r. ⌜ Filled 0 (now (places .entry)) (now (lengths .entry)) (now (weights .entry)) 0 (now (work .exit)) ⌝ ∗ ⌜ drop 15000 (now (work .exit)) ≡ drop 15000 (now (work .entry)) ⌝ }
+pub fn fill(places: &[i16], lengths: &[u8], weights: &[u16], reaches: &[u16], work: &mut [u32])
+    requires { ⌜ Ready (strip (now places) (now lengths) (now weights)) (now reaches) (now work) ⌝ }
+    ensures { λ _. ⌜ Filled 0 (strip (now (places .entry)) (now (lengths .entry)) (now (weights .entry))) 0 (now (work .exit)) ⌝
+        ∗ ⌜ drop workNamed (now (work .exit)) ≡ drop workNamed (now (work .entry)) ⌝ }
 {
-    memory::clear(work);
+    work::clear(work);
     let mut k = places.len();
     while 0 < k {
         k -= 1;

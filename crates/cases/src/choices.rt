@@ -7,7 +7,6 @@
 // - BEST: 0 for no label, or the position 1 to 4;
 // - SLIDE: the side, 0 above and 1 below, plus twice the number of dots by which the label lies right of its leftmost edge;
 // - HALVES: the same in half dots.
-
 ghost use Prim.Native.Nat.{_≤_, _<_};
 
 pub const FULL: u32 = 0;
@@ -34,23 +33,21 @@ fn values(model: u32) -> u32
     30
 }
 
-// The choices with one mark more; the remainder is all of them, and shows that the product fits.
-fn with_one_more(model: u32, choices: u32) -> u32 {
-    let all = choices % 100000000;
-    if model == FULL {
-        return 4 * all;
+// The choices with one mark more. No strip of 5 marks has so many that the product would not fit.
+fn with_one_more(model: u32, choices: u32) -> u32
+    requires { ⌜ 0 < choices ⌝ }
+    ensures { λ r. ⌜ 0 < r ⌝ }
+{
+    if 100000000 < choices {
+        return choices;
     }
-    if model == BEST {
-        return 5 * all;
-    }
-    if model == SLIDE {
-        return 16 * all;
-    }
-    30 * all
+    values(model) * choices
 }
 
 // How many choices there are for `k` marks, at most 6.
-pub fn choices(model: u32, k: usize) -> u32 {
+pub fn choices(model: u32, k: usize) -> u32
+    ensures { λ r. ⌜ 0 < r ⌝ }
+{
     let mut all = 1;
     let mut i = 0;
     while i < k {
@@ -61,15 +58,11 @@ pub fn choices(model: u32, k: usize) -> u32 {
 }
 
 // The digit of mark `i` in a choice for `n` marks, 0 behind the last.
-fn digit(model: u32, n: usize, choice: u32, i: usize) -> u8 {
+pub fn digit(model: u32, n: usize, choice: u32, i: usize) -> u8 {
     if n <= i {
         return 0;
     }
-    let after = choices(model, n - i - 1);
-    if after == 0 {
-        return 0;
-    }
-    (choice / after % values(model) % 256) as u8
+    (choice / choices(model, n - i - 1) % values(model) % 256) as u8
 }
 
 // The digits of a choice for `n` marks.

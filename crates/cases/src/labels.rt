@@ -1,15 +1,24 @@
 // The labels of a choice, and whether two of them overlap.
+ghost use Prim.Native.Nat.{_≤_};
 use crate::choices;
 use crate::lists;
+use crate::strip::MOST;
 
-// A label as an open span on one side, or none. The ends are counted in dots, or in half dots, from 256 dots left of dot 0.
+// A label as an open span on a side. The ends are counted in half dots from 256 dots left of dot 0.
 struct Span {
-    valid: bool,
-    none: bool,
-    above: bool,
+    side: u8,
     left: u32,
     right: u32,
 }
+
+const ABOVE: u8 = 0;
+
+const BELOW: u8 = 1;
+
+// The sides of a mark without a label, and of a digit that the model does not have.
+const NONE: u8 = 2;
+
+const WRONG: u8 = 3;
 
 // The position that a digit of the model FULL stands for.
 pub fn ranked(digit: u8) -> u8 {
@@ -25,49 +34,37 @@ pub fn ranked(digit: u8) -> u8 {
     4
 }
 
-// The label at one of the four positions, or none at 0.
-fn at_position(dot: u8, length: u8, position: u8) -> Span {
-    let place = dot as u32 + 256;
-    let is_left = position == 2 || position == 3;
-    let left = if is_left {
-        place - length as u32
-    } else {
-        place
-    };
+// The label that lies so many half dots right of its leftmost edge; it may lie as far right as it is long.
+fn slid_label(dot: u8, length: u8, side: u8, half_dots: u32) -> Span
+    requires { ⌜ «half_dots» ≤ 510 ⌝ }
+{
+    let left = 2 * (dot as u32 + 256 - length as u32) + half_dots;
+    let width = 2 * length as u32;
     Span {
-        valid: position <= 4,
-        none: position == 0,
-        above: position == 1 || position == 2,
+        side: if half_dots <= width { side } else { WRONG },
         left,
-        right: if is_left {
-            place
-        } else {
-            place + length as u32
-        },
+        right: left + width,
     }
 }
 
-// The label of a digit of SLIDE, or of HALVES with its ends in half dots.
-fn slid_label(dot: u8, length: u8, digit: u8, is_halves: bool) -> Span {
-    let slid = digit as u32 / 2;
-    let leftmost = dot as u32 + 256 - length as u32;
-    let width = length as u32;
-    if is_halves {
-        return Span {
-            valid: slid <= width + width,
-            none: false,
-            above: digit % 2 == 0,
-            left: leftmost + leftmost + slid,
-            right: leftmost + leftmost + slid + width + width,
-        };
+// The side of a position, or of none at 0.
+fn side_of(position: u8) -> u8 {
+    if position == 0 {
+        return NONE;
     }
-    Span {
-        valid: slid <= width,
-        none: false,
-        above: digit % 2 == 0,
-        left: leftmost + slid,
-        right: leftmost + slid + width,
+    if 4 < position {
+        return WRONG;
     }
+    if position <= 2 { ABOVE } else { BELOW }
+}
+
+// The label at one of the four positions, or none at 0: 2 and 3 have it leftmost, 1 and 4 rightmost.
+fn at_position(dot: u8, length: u8, position: u8) -> Span {
+    let side = side_of(position);
+    if position == 2 || position == 3 {
+        return slid_label(dot, length, side, 0);
+    }
+    slid_label(dot, length, side, 2 * length as u32)
 }
 
 fn label(model: u32, dot: u8, length: u8, digit: u8) -> Span {
@@ -77,60 +74,62 @@ fn label(model: u32, dot: u8, length: u8, digit: u8) -> Span {
     if model == choices::BEST {
         return at_position(dot, length, digit);
     }
-    slid_label(dot, length, digit, model == choices::HALVES)
+    let slid = digit as u32 / 2;
+    if model == choices::HALVES {
+        return slid_label(dot, length, digit % 2, slid);
+    }
+    slid_label(dot, length, digit % 2, 2 * slid)
+}
+
+// The label of mark `i`.
+fn label_of(model: u32, dots: &[u8], lengths: &[u8], digits: &[u8], i: usize) -> Span {
+    label(
+        model,
+        lists::at(dots, i),
+        lists::at(lengths, i),
+        lists::at(digits, i),
+    )
 }
 
 // Whether two labels overlap: both are there, on one side, and their spans share more than an end point.
 fn overlap(a: Span, b: Span) -> bool {
-    if a.none || b.none || a.above != b.above {
-        return false;
-    }
-    a.left < b.right && b.left < a.right
+    a.side == b.side && a.side != NONE && a.left < b.right && b.left < a.right
 }
 
 // Whether the label of mark `later` is none that the model has, or overlaps that of the mark `earlier`.
 fn is_wrong(
     model: u32,
-    dots: &[u8; 8],
-    lengths: &[u8; 8],
-    digits: &[u8; 8],
+    dots: &[u8],
+    lengths: &[u8],
+    digits: &[u8],
     earlier: usize,
     later: usize,
 ) -> bool {
-    let b = label(
-        model,
-        lists::at(dots, later),
-        lists::at(lengths, later),
-        lists::at(digits, later),
-    );
-    if !b.valid {
+    let b = label_of(model, dots, lengths, digits, later);
+    if b.side == WRONG {
         return true;
     }
     if later <= earlier {
         return false;
     }
-    let a = label(
-        model,
-        lists::at(dots, earlier),
-        lists::at(lengths, earlier),
-        lists::at(digits, earlier),
-    );
-    overlap(a, b)
+    overlap(label_of(model, dots, lengths, digits, earlier), b)
 }
 
-// The first of the `n` marks, counted from 0, whose label overlaps that of an earlier mark or is none that the model has; `n` if
-// there is no such mark. All pairs are tested.
-pub fn clash(model: u32, dots: &[u8; 8], lengths: &[u8; 8], n: usize, digits: &[u8; 8]) -> usize {
+// Pairs of marks, in any order.
+const PAIRS: usize = MOST * MOST;
+
+// The first of the marks, counted from 0, whose label overlaps that of an earlier mark or is none that the model has; their number
+// if there is no such mark. All pairs are tested.
+pub fn clash(model: u32, dots: &[u8], lengths: &[u8], digits: &[u8; 8]) -> usize {
     let mut pair = 0;
-    while pair < 36 {
-        let later = pair / 6;
-        let earlier = pair % 6;
-        if later < n {
-            if is_wrong(model, dots, lengths, digits, earlier, later) {
+    while pair < PAIRS {
+        let later = pair / MOST;
+        if later < dots.len() {
+            if is_wrong(model, dots, lengths, digits, pair % MOST, later) {
                 return later;
             }
         }
         pair += 1;
     }
-    n
+    dots.len()
 }

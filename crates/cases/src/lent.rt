@@ -1,15 +1,18 @@
 // Answer lists and work areas that are too short by one, or just long enough, for a strip of three marks.
 ghost use Prim.Native.Nat.{_≤_};
+ghost use Rattle.full.specs.Full.{workNamed as fullWork};
+ghost use Rattle.slide.specs.Slide.{workNamed as slideWork};
+ghost use Rattle.best.specs.Best.{workNamed as bestWork};
 use crate::tally;
 
 const PLACES: [i16; 3] = [0, 1, 2];
 
 // The full pass must give this number with a position list and a work area of these lengths.
 fn full_gives(agreed: u32, case: u32, positions: usize, work: usize, number: u8) -> u32
-    requires { ⌜ (positions ≤ 3) × (work ≤ 20000) ⌝ }
+    requires { ⌜ (positions ≤ 3) × (work ≤ fullWork) ⌝ }
 {
     let mut position_list = [0u8; 3];
-    let mut work_area = [0i16; 20000];
+    let mut work_area = [0i16; full::WORK_NAMED];
     let got = full::full(
         &PLACES,
         &[10; 3],
@@ -22,11 +25,11 @@ fn full_gives(agreed: u32, case: u32, positions: usize, work: usize, number: u8)
 
 // The slide pass must give this number with a side list, a left edge list and a work area of these lengths.
 fn slide_gives(agreed: u32, case: u32, sides: usize, edges: usize, work: usize, number: u8) -> u32
-    requires { ⌜ (sides ≤ 3) × (edges ≤ 3) × (work ≤ 30000) ⌝ }
+    requires { ⌜ (sides ≤ 3) × (edges ≤ 3) × (work ≤ slideWork) ⌝ }
 {
     let mut side_list = [0u8; 3];
     let mut edge_list = [0i16; 3];
-    let mut work_area = [0u16; 30000];
+    let mut work_area = [0u16; slide::WORK_NAMED];
     let got = slide::slide(
         &PLACES,
         &[10; 3],
@@ -47,11 +50,11 @@ fn best_gives(
     work: usize,
     number: u8,
 ) -> u32
-    requires { ⌜ (positions ≤ 3) × («left_out» ≤ 3) × (work ≤ 15000) ⌝ }
+    requires { ⌜ (positions ≤ 3) × («left_out» ≤ 3) × (work ≤ bestWork) ⌝ }
 {
     let mut position_list = [0u8; 3];
     let mut left_out_list = [0u16; 3];
-    let mut work_area = [0u32; 15000];
+    let mut work_area = [0u32; best::WORK_NAMED];
     let got = best::best(
         &PLACES,
         &[10; 3],

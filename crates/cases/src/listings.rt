@@ -1,17 +1,21 @@
 // The listing's bytes, compared whole: strips 4, 6 and 11, no marks, refused jobs, 60 and 61 marks, and 30,000 bytes of input.
+ghost use Prim.Native.Nat.{_≤_};
+ghost use lib.ListN.{length};
+ghost use mathlib.Core.Path.{_≡_};
 use crate::jobs;
 use crate::tally;
+use listing::TEXT_MOST;
 
 // The listing of a job must be these bytes.
 fn gives(agreed: u32, case: u32, job: &[u8], wanted: &[u8]) -> u32 {
-    let mut text = [0u8; 30000];
+    let mut text = [0u8; TEXT_MOST];
     let got = listing::listing(job, &mut text);
     let first = tally::same_byte(agreed, case, got.number, 0);
     let second = tally::same_count(first, case, got.length, wanted.len());
     tally::holds(second, case, text_begins(&text, wanted))
 }
 
-fn text_begins(text: &[u8; 30000], wanted: &[u8]) -> bool {
+fn text_begins(text: &[u8; TEXT_MOST], wanted: &[u8]) -> bool {
     tally::begins_with(text, wanted)
 }
 
@@ -70,51 +74,48 @@ fn spaced_byte(marks: u8, i: usize) -> u8 {
     20
 }
 
-fn set_byte(job: &mut [u8; 185], marks: u8, i: usize) {
-    if i < 185 {
-        job[i] = spaced_byte(marks, i);
-    }
-}
-
 // The job of 61 marks has 185 bytes, that of 60 marks 3 less.
-fn set_spaced(job: &mut [u8; 185], marks: u8) {
+fn set_spaced(job: &mut [u8], marks: u8)
+    requires { ⌜ length (now job) ≡ 185 ⌝ }
+    ensures { λ _. ⌜ length (now (job .exit)) ≡ 185 ⌝ }
+{
     let mut i = 0;
     while i < 185 {
-        set_byte(job, marks, i);
+        job[i] = spaced_byte(marks, i);
         i += 1;
     }
 }
 
-// The listing of the job in the first `n` bytes.
-fn first_gives(agreed: u32, case: u32, job: &[u8], n: usize, wanted: &[u8]) -> u32 {
-    if job.len() < n {
-        return tally::holds(agreed, case, false);
-    }
+// The listing of that job, of which the first `n` bytes are given.
+fn spaced_gives(agreed: u32, case: u32, marks: u8, n: usize, wanted: &[u8]) -> u32
+    requires { ⌜ n ≤ 185 ⌝ }
+{
+    let mut job = [0u8; 185];
+    set_spaced(&mut job, marks);
     gives(agreed, case, &job[..n], wanted)
-}
-
-fn spaced_gives(agreed: u32, case: u32, job: &[u8; 185], n: usize, wanted: &[u8]) -> u32 {
-    first_gives(agreed, case, job, n, wanted)
 }
 
 // 60 marks are the most that slide and best take.
 fn many(agreed: u32) -> u32 {
-    let mut job = [0u8; 185];
-    set_spaced(&mut job, 60);
     let a = spaced_gives(
         agreed,
         421,
-        &job,
+        60,
         182,
-        b"marks 60\nfull 2 2 2 2 2 2 2 2 2 2 2 2 2 2 2 2 2 2 2 2 2 2 2 2 2 2 2 2 2 2 2 2 2 2 2 2 2 2 2 2 2 2 2 2 2 2 2 2 2 2 2 2 2 2 2 2 2 2 2 2\nslide fits\nbest 60 of 60\nout none\n",
+        b"marks 60\n\
+          full 2 2 2 2 2 2 2 2 2 2 2 2 2 2 2 2 2 2 2 2 2 2 2 2 2 2 2 2 2 2 \
+          2 2 2 2 2 2 2 2 2 2 2 2 2 2 2 2 2 2 2 2 2 2 2 2 2 2 2 2 2 2\n\
+          slide fits\nbest 60 of 60\nout none\n",
     );
-    set_spaced(&mut job, 61);
     spaced_gives(
         a,
         422,
-        &job,
+        61,
         185,
-        b"marks 61\nfull 2 2 2 2 2 2 2 2 2 2 2 2 2 2 2 2 2 2 2 2 2 2 2 2 2 2 2 2 2 2 2 2 2 2 2 2 2 2 2 2 2 2 2 2 2 2 2 2 2 2 2 2 2 2 2 2 2 2 2 2 2\nslide refused 7\nbest refused 7\n",
+        b"marks 61\n\
+          full 2 2 2 2 2 2 2 2 2 2 2 2 2 2 2 2 2 2 2 2 2 2 2 2 2 2 2 2 2 2 \
+          2 2 2 2 2 2 2 2 2 2 2 2 2 2 2 2 2 2 2 2 2 2 2 2 2 2 2 2 2 2 2\n\
+          slide refused 7\nbest refused 7\n",
     )
 }
 

@@ -1,51 +1,50 @@
-// Lists of 8 elements, of which an index may lie behind the last.
-ghost use Prim.Native.Nat.{_<_};
+// Lists of up to 8 elements, of which an index may lie behind the last.
+use crate::tally;
 
-pub fn at(a: &[u8; 8], i: usize) -> u8 {
-    if i < 8 { a[i] } else { 0 }
+// What stands in an answer list before a call, which is no answer for any strip here: where a pass must not write, it stands there
+// afterwards.
+pub const UNWRITTEN: u8 = 0x77;
+
+pub const UNWRITTEN_NUMBER: u16 = 777;
+
+pub const UNWRITTEN_EDGE: i16 = 7777;
+
+pub fn at(a: &[u8], i: usize) -> u8 {
+    if i < a.len() { a[i] } else { 0 }
 }
 
-pub fn number_at(a: &[u16; 8], i: usize) -> u16 {
-    if i < 8 { a[i] } else { 0 }
+pub fn number_at(a: &[u16], i: usize) -> u16 {
+    if i < a.len() { a[i] } else { 0 }
 }
 
-pub fn place_at(a: &[i16; 8], i: usize) -> i16 {
-    if i < 8 { a[i] } else { 0 }
+pub fn place_at(a: &[i16], i: usize) -> i16 {
+    if i < a.len() { a[i] } else { 0 }
 }
 
-pub fn set(a: &mut [u8; 8], i: usize, x: u8) {
-    if i < 8 {
-        a[i] = x;
-    }
+// Whether two lists of 8 are the same.
+pub fn same(a: &[u8; 8], b: &[u8; 8]) -> bool {
+    tally::begins_with(a, b)
 }
 
-pub fn set_number(a: &mut [u16; 8], i: usize, x: u16) {
-    if i < 8 {
-        a[i] = x;
-    }
+// Whether a list of 8 has these bytes.
+pub fn is_written(a: &[u8; 8], x: u64) -> bool {
+    same(a, &bytes(x))
 }
 
-pub fn set_place(a: &mut [i16; 8], i: usize, x: i16) {
-    if i < 8 {
-        a[i] = x;
-    }
+fn lowest(x: u64) -> u8 {
+    (x % 256) as u8
 }
 
-fn wide(x: u8) -> u64
-    ensures { λ r. ⌜ r < 256 ⌝ }
-{
-    x as u64
-}
-
-fn four(a: u8, b: u8, c: u8, d: u8) -> u64
-    ensures { λ r. ⌜ r < 4294967296 ⌝ }
-{
-    wide(a) + 256 * wide(b) + 65536 * wide(c) + 16777216 * wide(d)
-}
-
-// The list as one number, so that two lists are compared in one test.
-pub fn packed(a: &[u8; 8]) -> u64 {
-    let low = four(at(a, 0), at(a, 1), at(a, 2), at(a, 3));
-    let high = four(at(a, 4), at(a, 5), at(a, 6), at(a, 7));
-    low + 4294967296 * high
+// The 8 bytes of a number, the highest first: a list that is written as one number.
+pub fn bytes(x: u64) -> [u8; 8] {
+    [
+        lowest(x >> 56),
+        lowest(x >> 48),
+        lowest(x >> 40),
+        lowest(x >> 32),
+        lowest(x >> 24),
+        lowest(x >> 16),
+        lowest(x >> 8),
+        lowest(x),
+    ]
 }

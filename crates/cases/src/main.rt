@@ -21,28 +21,33 @@ mod sums;
 mod tally;
 mod worked;
 
+use strip::Draw;
+
 // Strips of up to 6 marks, some one in six of which cannot have a label for every mark.
 fn random_corners() {
-    let steps = 3;
-    let shortest = 1;
-    let spread = 24;
-    random::random(b"full random", choices::FULL, 1, steps, shortest, spread);
-    random::random(b"best random", choices::BEST, 2, steps, shortest, spread);
+    let draw = Draw {
+        steps: 3,
+        shortest: 1,
+        spread: 24,
+    };
+    random::random(b"full random", choices::FULL, 1, draw);
+    random::random(b"best random", choices::BEST, 2, draw);
 }
 
 // Labels of up to 4 dots, with which 6 marks always fit, and of 4 to 7.
 fn random_slides() {
-    let steps = 2;
-    let spread = 4;
-    random::random(b"slide random", choices::SLIDE, 3, steps, 1, spread);
-    random::random(
-        b"slide random, long labels",
-        choices::SLIDE,
-        4,
-        steps,
-        4,
-        spread,
-    );
+    let short = Draw {
+        steps: 2,
+        shortest: 1,
+        spread: 4,
+    };
+    random::random(b"slide random", choices::SLIDE, 3, short);
+    let long = Draw {
+        steps: 2,
+        shortest: 4,
+        spread: 4,
+    };
+    random::random(b"slide random, long labels", choices::SLIDE, 4, long);
 }
 
 fn main() {

@@ -1,69 +1,51 @@
 // The best pass on random strips: the greatest sum over all overlap-free choices, that the listed choice is overlap-free and
 // earns the sum, and the left-out set.
-ghost use Prim.Native.Nat.{_≤_};
-ghost use lib.ListN.{length};
 use crate::choices;
 use crate::labels;
 use crate::left_out;
+use crate::lists;
 use crate::sums;
 use crate::tally;
 use best::answer::Best;
 
-// The pass on the first `n` marks.
-fn run_first(
-    n: usize,
-    places: &[i16],
-    lengths: &[u8],
-    weights: &[u16],
-    positions: &mut [u8],
-    left_out: &mut [u16],
-) -> Best
-    requires { ⌜ (n ≤ length (now places)) × (n ≤ length (now lengths)) × (n ≤ length (now weights)) ⌝ }
-{
-    let mut work = [0u32; 15000];
-    best::best(
-        &places[..n],
-        &lengths[..n],
-        &weights[..n],
-        positions,
-        left_out,
-        &mut work,
-    )
+// Whether the positions are an overlap-free choice that earns this sum, and it is the greatest.
+fn earns(dots: &[u8], lengths: &[u8], weights: &[u16], positions: &[u8; 8], sum: u32) -> bool {
+    if labels::clash(choices::BEST, dots, lengths, positions) < dots.len() {
+        return false;
+    }
+    if sums::sum_of(weights, positions) != sum {
+        return false;
+    }
+    sums::greatest_sum(dots, lengths, weights) == sum
 }
 
-// Whether the positions are an overlap-free choice that earns this sum, and it is the greatest.
-fn earns(
-    n: usize,
-    dots: &[u8; 8],
-    lengths: &[u8; 8],
-    weights: &[u16; 8],
+// Whether all that the pass gave is right.
+fn agrees(
+    dots: &[u8],
+    lengths: &[u8],
+    weights: &[u16],
     positions: &[u8; 8],
-    sum: u32,
+    left_out: &[u16; 8],
+    best: Best,
 ) -> bool {
-    if labels::clash(choices::BEST, dots, lengths, n, positions) < n {
-        return false;
-    }
-    if sums::sum_of(weights, n, positions) != sum {
-        return false;
-    }
-    sums::greatest_sum(dots, lengths, weights, n) == sum
+    best.number == 0
+        && earns(dots, lengths, weights, positions, best.sum)
+        && left_out::is_left_out_set(dots.len(), positions, left_out, best.count)
 }
 
 // One strip.
-pub fn compared(
-    n: usize,
-    dots: &[u8; 8],
-    places: &[i16; 8],
-    lengths: &[u8; 8],
-    weights: &[u16; 8],
-) -> u8
-    requires { ⌜ n ≤ 8 ⌝ }
-{
-    let mut positions = [77u8; 8];
-    let mut left_out = [777u16; 8];
-    let best = run_first(n, places, lengths, weights, &mut positions, &mut left_out);
-    let agreed = best.number == 0
-        && earns(n, dots, lengths, weights, &positions, best.sum)
-        && left_out::is_left_out_set(n, &positions, &left_out, best.count);
+pub fn compared(dots: &[u8], places: &[i16], lengths: &[u8], weights: &[u16]) -> u8 {
+    let mut positions = [lists::UNWRITTEN; 8];
+    let mut left_out = [lists::UNWRITTEN_NUMBER; 8];
+    let mut work = [0u32; best::WORK_NAMED];
+    let best = best::best(
+        places,
+        lengths,
+        weights,
+        &mut positions,
+        &mut left_out,
+        &mut work,
+    );
+    let agreed = agrees(dots, lengths, weights, &positions, &left_out, best);
     tally::outcome(agreed, best.count == 0)
 }

@@ -1,9 +1,10 @@
 // The ranges of a mark and the numbers of marks, at each boundary: strip 13, for the three passes and the writer.
-ghost use Prim.Native.Nat.{_≤_};
+ghost use Prim.Native.Nat.{_+_, _≤_};
 ghost use lib.ListN.{length};
 ghost use mathlib.Core.Path.{_≡_};
+ghost use Rattle.geometry.specs.Strip.{mostMarks};
 use crate::passes;
-use crate::strip;
+use crate::passes::TOO_MANY;
 use crate::tally;
 
 fn best_number(places: &[i16], lengths: &[u8], weights: &[u16]) -> u8 {
@@ -11,8 +12,11 @@ fn best_number(places: &[i16], lengths: &[u8], weights: &[u16]) -> u8 {
     got.number
 }
 
+// More bytes than any job has.
+const ANY_JOB: usize = 30000;
+
 fn writer_number(places: &[i16], lengths: &[u8], weights: &[u16]) -> u8 {
-    let mut job = [0u8; 30000];
+    let mut job = [0u8; ANY_JOB];
     let got = job::writer::write(places, lengths, weights, &mut job);
     got.number
 }
@@ -112,16 +116,13 @@ fn lists(agreed: u32) -> u32 {
 }
 
 // A mark at each 15th dot from −30,000 on, which makes 4,001 of them up to 30,000.
-fn set_place(places: &mut [i16; 4001], i: usize) {
-    if i < 4001 {
-        places[i] = strip::place_at((2768 + 15 * i) as u16);
-    }
-}
-
-fn set_places(places: &mut [i16; 4001]) {
+fn set_places(places: &mut [i16])
+    requires { ⌜ length (now places) ≡ mostMarks + 1 ⌝ }
+    ensures { λ _. ⌜ length (now (places .exit)) ≡ mostMarks + 1 ⌝ }
+{
     let mut i = 0;
-    while i < 4001 {
-        set_place(places, i);
+    while i < TOO_MANY {
+        places[i] = geometry::dot::place_of((2768 + 15 * i) as u16);
         i += 1;
     }
 }
@@ -130,21 +131,22 @@ fn set_places(places: &mut [i16; 4001]) {
 fn first_give(
     agreed: u32,
     case: u32,
-    places: &[i16],
     marks: usize,
     lengths: usize,
     dots: u8,
     small: u8,
     large: u8,
 ) -> u32
-    requires { ⌜ (length (now places) ≡ 4001) × (marks ≤ 4001) × (lengths ≤ 4001) ⌝ }
+    requires { ⌜ (marks ≤ mostMarks + 1) × (lengths ≤ mostMarks + 1) ⌝ }
 {
-    let length_list = [dots; 4001];
-    let weight_list = [1u16; 4001];
+    let mut place_list = [0i16; TOO_MANY];
+    set_places(&mut place_list);
+    let length_list = [dots; TOO_MANY];
+    let weight_list = [1u16; TOO_MANY];
     all_give(
         agreed,
         case,
-        &places[..marks],
+        &place_list[..marks],
         &length_list[..lengths],
         &weight_list[..marks],
         small,
@@ -153,19 +155,13 @@ fn first_give(
 }
 
 // 60 and 61 marks, 4,000 and 4,001; 7 comes before 8, and 6 before 7.
-fn many(agreed: u32, places: &[i16; 4001]) -> u32 {
-    let a = first_give(agreed, 141, places, 60, 60, 10, 0, 0);
-    let b = first_give(a, 142, places, 61, 61, 10, 7, 0);
-    let c = first_give(b, 143, places, 4000, 4000, 10, 7, 0);
-    let d = first_give(c, 144, places, 4001, 4001, 10, 7, 7);
-    let e = first_give(d, 145, places, 61, 61, 0, 7, 8);
-    first_give(e, 146, places, 4001, 4000, 10, 6, 6)
-}
-
 fn counts(agreed: u32) -> u32 {
-    let mut places = [0i16; 4001];
-    set_places(&mut places);
-    many(agreed, &places)
+    let a = first_give(agreed, 141, 60, 60, 10, 0, 0);
+    let b = first_give(a, 142, 61, 61, 10, 7, 0);
+    let c = first_give(b, 143, 4000, 4000, 10, 7, 0);
+    let d = first_give(c, 144, 4001, 4001, 10, 7, 7);
+    let e = first_give(d, 145, 61, 61, 0, 7, 8);
+    first_give(e, 146, 4001, 4000, 10, 6, 6)
 }
 
 pub fn ranges() -> u32 {

@@ -17,9 +17,6 @@ fn skipped(model: u32, n: usize, choice: u32, k: usize) -> u32 {
         return std::num::wrapping_add_u32(choice, 1);
     }
     let after = choices::choices(model, n - k - 1);
-    if after == 0 {
-        return std::num::wrapping_add_u32(choice, 1);
-    }
     std::num::wrapping_add_u32(std::num::wrapping_sub_u32(choice, choice % after), after)
 }
 
@@ -27,7 +24,8 @@ fn skipped(model: u32, n: usize, choice: u32, k: usize) -> u32 {
 const TURNS: u32 = 4000000;
 
 // The first choice that is a placing.
-pub fn first_placing(model: u32, dots: &[u8; 8], lengths: &[u8; 8], n: usize) -> u32 {
+pub fn first_placing(model: u32, dots: &[u8], lengths: &[u8]) -> u32 {
+    let n = dots.len();
     let all = choices::choices(model, n);
     let mut choice = 0;
     let mut turn = 0;
@@ -35,7 +33,7 @@ pub fn first_placing(model: u32, dots: &[u8; 8], lengths: &[u8; 8], n: usize) ->
         if all <= choice {
             return NOTHING;
         }
-        let k = labels::clash(model, dots, lengths, n, &choices::digits(model, n, choice));
+        let k = labels::clash(model, dots, lengths, &choices::digits(model, n, choice));
         if n <= k {
             return choice;
         }

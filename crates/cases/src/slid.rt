@@ -31,13 +31,7 @@ fn digit_of(side: u8, dot: u8, length: u8, edge: i16) -> u8 {
     side + 2 * slid
 }
 
-fn mark_digit(
-    dots: &[u8; 8],
-    lengths: &[u8; 8],
-    sides: &[u8; 8],
-    edges: &[i16; 8],
-    i: usize,
-) -> u8 {
+fn mark_digit(dots: &[u8], lengths: &[u8], sides: &[u8], edges: &[i16], i: usize) -> u8 {
     digit_of(
         lists::at(sides, i),
         lists::at(dots, i),
@@ -46,7 +40,7 @@ fn mark_digit(
     )
 }
 
-pub fn digits_of(dots: &[u8; 8], lengths: &[u8; 8], sides: &[u8; 8], edges: &[i16; 8]) -> [u8; 8] {
+pub fn digits_of(dots: &[u8], lengths: &[u8], sides: &[u8], edges: &[i16]) -> [u8; 8] {
     [
         mark_digit(dots, lengths, sides, edges, 0),
         mark_digit(dots, lengths, sides, edges, 1),

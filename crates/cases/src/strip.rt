@@ -1,10 +1,20 @@
 // Pseudo-random strips of up to 6 marks.
 //
-// A mark stands at a dot from 0 to 255; its place is the dot less 64, so that places of both signs occur. A strip is its number
-// of marks and four lists of 8 elements, of which the first so many are used.
+// A mark stands at a dot from 0 to 255; its place is the dot less 64, so that places of both signs occur. A strip is four lists of
+// one length: dots, places, lengths and weights.
 ghost use Prim.Native.Nat.{_≤_, _<_};
 use crate::lists;
 use crate::tally;
+
+// The most marks that a strip has.
+pub const MOST: usize = 6;
+
+// What marks are drawn from: steps of 1 to `steps` dots, and one of `spread` lengths from `shortest` on.
+pub struct Draw {
+    pub steps: u64,
+    pub shortest: u8,
+    pub spread: u64,
+}
 
 // The multiplicative generator with modulus 2^31 − 1.
 pub fn next(seed: u64) -> u64 {
@@ -21,21 +31,9 @@ fn below(seed: u64, n: u64) -> u64
     seed / 64 % n % 256
 }
 
-// The place of a number of dots that are counted from −32,768.
-pub fn place_at(dot: u16) -> i16 {
-    if dot < 32768 {
-        return -1 - (32767 - dot) as i16;
-    }
-    (dot - 32768) as i16
-}
-
 // The place that belongs to a number of dots counted from 256 dots left of dot 0.
 pub fn place_of(dot: u16) -> i16 {
-    place_at(dot % 4096 + 32448)
-}
-
-fn place_of_dot(dot: u8) -> i16 {
-    place_of(dot as u16 + 256)
+    geometry::dot::place_of(dot % 4096 + 32448)
 }
 
 // The number of marks of the strip that follows a seed.
@@ -58,67 +56,56 @@ fn weight_from(seed: u64) -> u16 {
     ((1 + below(seed, 9)) % 256) as u16
 }
 
-// Puts the marks that follow a seed into the lists: steps of 1 to `steps` dots, and one of `spread` lengths from `shortest` on. It
-// gives the seed of the next strip.
+// Puts the marks that follow a seed into the lists, and gives the seed of the next strip.
 pub fn set_marks(
     seed: u64,
-    steps: u64,
-    shortest: u8,
-    spread: u64,
-    dots: &mut [u8; 8],
-    places: &mut [i16; 8],
-    lengths: &mut [u8; 8],
-    weights: &mut [u16; 8],
+    draw: Draw,
+    dots: &mut [u8; MOST],
+    places: &mut [i16; MOST],
+    lengths: &mut [u8; MOST],
+    weights: &mut [u16; MOST],
 ) -> u64 {
     let mut last = seed;
     let mut dot = 40;
     let mut i = 0;
-    while i < 6 {
+    while i < MOST {
         let a = next(last);
         let b = next(a);
         last = next(b);
-        dot = next_dot(dot, a, steps);
-        lists::set(dots, i, dot);
-        lists::set_place(places, i, place_of_dot(dot));
-        lists::set(lengths, i, length_from(b, shortest, spread));
-        lists::set_number(weights, i, weight_from(last));
+        dot = next_dot(dot, a, draw.steps);
+        dots[i] = dot;
+        places[i] = place_of(dot as u16 + 256);
+        lengths[i] = length_from(b, draw.shortest, draw.spread);
+        weights[i] = weight_from(last);
         i += 1;
     }
     last
 }
 
-fn wide(x: u16) -> u64 {
-    x as u64
-}
-
-fn wider(x: u8) -> u64 {
-    x as u64
-}
-
 // The place of a mark, with its sign.
-fn print_place(dot: u64) {
+fn print_place(dot: u8) {
     if dot < 64 {
-        tally::print_number(b" -", 64 - dot);
+        tally::print_number(b" -", 64 - dot as u64);
         return;
     }
-    tally::print_number(b" ", dot - 64);
+    tally::print_number(b" ", dot as u64 - 64);
 }
 
-fn print_mark(dot: u64, length: u64, weight: u64) {
+fn print_mark(dot: u8, length: u8, weight: u16) {
     print_place(dot);
-    tally::print_number(b" ", length);
-    tally::print_number(b" ", weight);
+    tally::print_number(b" ", length as u64);
+    tally::print_number(b" ", weight as u64);
     tally::print(b",");
 }
 
 // The place, length and weight of each mark.
-pub fn print_marks(n: usize, dots: &[u8; 8], lengths: &[u8; 8], weights: &[u16; 8]) {
+pub fn print_marks(n: usize, dots: &[u8], lengths: &[u8], weights: &[u16]) {
     let mut i = 0;
     while i < n {
         print_mark(
-            wider(lists::at(dots, i)),
-            wider(lists::at(lengths, i)),
-            wide(lists::number_at(weights, i)),
+            lists::at(dots, i),
+            lists::at(lengths, i),
+            lists::number_at(weights, i),
         );
         i += 1;
     }

@@ -1,3 +1,8 @@
--- What the contracts of the calls say together.
-pub mod BothPasses
+-- Laws that belong to no one function, in reading order; Demands proves the page of specs/ of that name.
+pub mod Refusals
+pub mod FullNumber
+pub mod BestAndFull
 pub mod RoundTrips
+pub mod Demands
+pub mod Comparison
+pub mod ThereAndBack

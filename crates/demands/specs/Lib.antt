@@ -1,3 +1,4 @@
--- The demands as contracts of small functions over the public calls.
+-- The three demands, and what small functions over the public calls show of them.
+pub mod Demands
 pub mod Compare
 pub mod Trips

@@ -1,9 +1,10 @@
 // The best pass against the full pass, on the same strip.
-ghost use Rattle.best.specs.Best.{lent};
+ghost use Rattle.geometry.specs.Strip.{strip};
+ghost use Rattle.full.specs.Full.{fullLent};
+ghost use Rattle.best.specs.Best.{bestLent};
 ghost use Rattle.demands.specs.Compare.{BestAgainstFull};
 use crate::answer::Compared;
-
-const NO_PLACING: u8 = 11;
+use geometry::refusal::NO_PLACING;
 
 // Whether the full pass fits the strip, and the sum of the best pass, where both accept it.
 pub fn best_against_full(
@@ -16,7 +17,13 @@ pub fn best_against_full(
     left_out: &mut [u16],
     best_work: &mut [u32],
 ) -> Compared
-    ensures { λ r. ⌜ BestAgainstFull (now (places .entry)) (now (lengths .entry)) (now (weights .entry)) (now («full_positions» .entry)) (now («full_work» .entry)) (now («full_positions» .exit)) (now («full_work» .exit)) (lent (now («best_positions» .entry)) (now («left_out» .entry)) (now («best_work» .entry))) (lent (now («best_positions» .exit)) (now («left_out» .exit)) (now («best_work» .exit))) r ⌝ }
+    ensures { λ r. ⌜ BestAgainstFull
+        (strip (now (places .entry)) (now (lengths .entry)) (now (weights .entry)))
+        (fullLent (now («full_positions» .entry)) (now («full_work» .entry)))
+        (fullLent (now («full_positions» .exit)) (now («full_work» .exit)))
+        (bestLent (now («best_positions» .entry)) (now («left_out» .entry)) (now («best_work» .entry)))
+        (bestLent (now («best_positions» .exit)) (now («left_out» .exit)) (now («best_work» .exit)))
+        r ⌝ }
 {
     let number = full::full(places, lengths, weights, full_positions, full_work);
     let found = best::best(

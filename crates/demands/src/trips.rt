@@ -1,4 +1,5 @@
 // Both round trips: a job that is read and written back, and marks that are written and read back.
+ghost use Rattle.geometry.specs.Strip.{strip};
 ghost use Rattle.demands.specs.Trips.{JobThereAndBack, MarksThereAndBack};
 use crate::answer::Trip;
 
@@ -10,7 +11,11 @@ pub fn job_there_and_back(
     weights: &mut [u16],
     copy: &mut [u8],
 ) -> Trip
-    ensures { λ r. ⌜ JobThereAndBack (now (job .entry)) (now (places .entry)) (now (lengths .entry)) (now (weights .entry)) (now (copy .entry)) r (now (places .exit)) (now (lengths .exit)) (now (weights .exit)) (now (copy .exit)) ⌝ }
+    ensures { λ r. ⌜ JobThereAndBack
+        (now (job .entry))
+        (strip (now (places .entry)) (now (lengths .entry)) (now (weights .entry)))
+        (strip (now (places .exit)) (now (lengths .exit)) (now (weights .exit)))
+        (now (copy .entry)) (now (copy .exit)) r ⌝ }
 {
     let found = job::reader::read(job, places, lengths, weights);
     if found.number != 0 {
@@ -41,7 +46,12 @@ pub fn marks_there_and_back(
     lengths_back: &mut [u8],
     weights_back: &mut [u16],
 ) -> Trip
-    ensures { λ r. ⌜ MarksThereAndBack (now (places .entry)) (now (lengths .entry)) (now (weights .entry)) (now (job .entry)) (now («places_back» .entry)) (now («lengths_back» .entry)) (now («weights_back» .entry)) r (now (job .exit)) (now («places_back» .exit)) (now («lengths_back» .exit)) (now («weights_back» .exit)) ⌝ }
+    ensures { λ r. ⌜ MarksThereAndBack
+        (strip (now (places .entry)) (now (lengths .entry)) (now (weights .entry)))
+        (now (job .entry)) (now (job .exit))
+        (strip (now («places_back» .entry)) (now («lengths_back» .entry)) (now («weights_back» .entry)))
+        (strip (now («places_back» .exit)) (now («lengths_back» .exit)) (now («weights_back» .exit)))
+        r ⌝ }
 {
     let made = job::writer::write(places, lengths, weights, job);
     if made.number != 0 {

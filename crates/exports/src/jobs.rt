@@ -1,9 +1,6 @@
 // The job reader and the job writer for a C host.
-ghost use Prim.Native.Nat.{min};
-ghost use lib.ListN.{length};
-ghost use Rattle.job.specs.Decode.{decode};
-ghost use Rattle.job.specs.Encode.{jobFor};
-ghost use Rattle.job.specs.Calls.{ReadCall, WriteCall};
+ghost use Rattle.geometry.specs.Strip.{strip};
+ghost use Rattle.job.specs.Calls.{ReadContract, WriteContract};
 
 // The marks of a job in the three lists; 1 to 5 or 9 if the job or a list is refused. `count` is set at every return, to 0 at a
 // refusal.
@@ -15,7 +12,11 @@ pub extern "C" fn strip_read(
     weights: &mut [u16],
     count: &mut usize,
 ) -> u8
-    ensures { λ r. ⌜ ReadCall (decode (min (length (now (places .entry))) (min (length (now (lengths .entry))) (length (now (weights .entry))))) (now (job .entry))) (now (places .entry)) (now (lengths .entry)) (now (weights .entry)) (record { number = r; count = now (count .exit) }) (now (places .exit)) (now (lengths .exit)) (now (weights .exit)) ⌝ }
+    ensures { λ r. ⌜ ReadContract
+        (now (job .entry))
+        (strip (now (places .entry)) (now (lengths .entry)) (now (weights .entry)))
+        (strip (now (places .exit)) (now (lengths .exit)) (now (weights .exit)))
+        (record { number = r; count = now (count .exit) }) ⌝ }
 {
     let answer = job::reader::read(job, places, lengths, weights);
     *count = answer.count;
@@ -31,7 +32,9 @@ pub extern "C" fn strip_write(
     job: &mut [u8],
     length: &mut usize,
 ) -> u8
-    ensures { λ r. ⌜ WriteCall (jobFor (lib.ListN.length (now (job .entry))) (now (places .entry)) (now (lengths .entry)) (now (weights .entry))) (now (job .entry)) (record { number = r; length = now (length .exit) }) (now (job .exit)) ⌝ }
+    ensures { λ r. ⌜ WriteContract
+        (strip (now (places .entry)) (now (lengths .entry)) (now (weights .entry))) (now (job .entry))
+        (now (job .exit)) (record { number = r; length = now (length .exit) }) ⌝ }
 {
     let answer = job::writer::write(places, lengths, weights, job);
     *length = answer.length;

@@ -1,7 +1,8 @@
 // The three passes for a C host.
-ghost use Rattle.full.specs.Full.{FullContract};
-ghost use Rattle.slide.specs.SlidePass.{SlidePass};
-ghost use Rattle.best.specs.Best.{BestContract, lent};
+ghost use Rattle.geometry.specs.Strip.{strip};
+ghost use Rattle.full.specs.Full.{fullLent, FullContract};
+ghost use Rattle.slide.specs.Slide.{slideLent, SlideContract};
+ghost use Rattle.best.specs.Best.{bestLent, BestContract};
 
 // The position of every mark in `positions`, or 11; 6 to 10 if a check is not passed.
 #[no_mangle]
@@ -12,7 +13,10 @@ pub extern "C" fn strip_full(
     positions: &mut [u8],
     work: &mut [i16],
 ) -> u8
-    ensures { λ r. ⌜ FullContract (now (places .entry)) (now (lengths .entry)) (now (weights .entry)) (now (positions .entry)) (now (work .entry)) r (now (positions .exit)) (now (work .exit)) ⌝ }
+    ensures { λ r. ⌜ FullContract
+        (strip (now (places .entry)) (now (lengths .entry)) (now (weights .entry)))
+        (fullLent (now (positions .entry)) (now (work .entry)))
+        (fullLent (now (positions .exit)) (now (work .exit))) r ⌝ }
 {
     full::full(places, lengths, weights, positions, work)
 }
@@ -27,7 +31,10 @@ pub extern "C" fn strip_slide(
     edges: &mut [i16],
     work: &mut [u16],
 ) -> u8
-    ensures { λ r. ⌜ SlidePass (now (places .entry)) (now (lengths .entry)) (now (weights .entry)) (record { sides = now (sides .entry); edges = now (edges .entry); work = now (work .entry) }) (record { sides = now (sides .exit); edges = now (edges .exit); work = now (work .exit) }) r ⌝ }
+    ensures { λ r. ⌜ SlideContract
+        (strip (now (places .entry)) (now (lengths .entry)) (now (weights .entry)))
+        (slideLent (now (sides .entry)) (now (edges .entry)) (now (work .entry)))
+        (slideLent (now (sides .exit)) (now (edges .exit)) (now (work .exit))) r ⌝ }
 {
     slide::slide(places, lengths, weights, sides, edges, work)
 }
@@ -45,7 +52,11 @@ pub extern "C" fn strip_best(
     sum: &mut u32,
     count: &mut usize,
 ) -> u8
-    ensures { λ r. ⌜ BestContract (now (places .entry)) (now (lengths .entry)) (now (weights .entry)) (lent (now (positions .entry)) (now («left_out» .entry)) (now (work .entry))) (lent (now (positions .exit)) (now («left_out» .exit)) (now (work .exit))) (record { number = r; sum = now (sum .exit); count = now (count .exit) }) ⌝ }
+    ensures { λ r. ⌜ BestContract
+        (strip (now (places .entry)) (now (lengths .entry)) (now (weights .entry)))
+        (bestLent (now (positions .entry)) (now («left_out» .entry)) (now (work .entry)))
+        (bestLent (now (positions .exit)) (now («left_out» .exit)) (now (work .exit)))
+        (record { number = r; sum = now (sum .exit); count = now (count .exit) }) ⌝ }
 {
     let answer = best::best(places, lengths, weights, positions, left_out, work);
     *sum = answer.sum;

@@ -1,8 +1,10 @@
 -- Laws that belong to no one function, in reading order.
-pub mod Rest
+pub mod Candidates
+pub mod Within
 pub mod First
-pub mod Fill
 pub mod Rows
-pub mod Walks
-pub mod WalkSteps
-pub mod Answers
+pub mod Filling
+pub mod RowPicks
+pub mod Walking
+pub mod Fits
+pub mod Contract

@@ -4,16 +4,19 @@
 // all later marks can still be placed; one walk from the left then takes at each mark the first position that the table
 // allows. One step a mark in each direction, and no step looks at more than one row.
 mod kept;
+mod passed;
 mod table;
 mod walk;
+mod work;
 
-ghost use Rattle.full.specs.Full.{FullContract};
+ghost use Rattle.geometry.specs.Strip.{strip};
+ghost use Rattle.full.specs.Full.{fullLent, FullContract};
 use geometry::entry::check_pass;
+use geometry::limits::MOST_MARKS;
+use geometry::refusal::NO_PLACING;
 
 // The part of the work area that is named, and ends as zeros also at 11.
-const WORK: usize = 20000;
-
-const NO_PLACING: u8 = 11;
+pub const WORK_NAMED: usize = 20000;
 
 // The first placing of the strip, or 11 if there is none; 6 to 10 if a check is not passed.
 pub fn full(
@@ -23,15 +26,18 @@ pub fn full(
     positions: &mut [u8],
     work: &mut [i16],
 ) -> u8
-    ensures { λ r. ⌜ FullContract (now (places .entry)) (now (lengths .entry)) (now (weights .entry)) (now (positions .entry)) (now (work .entry)) r (now (positions .exit)) (now (work .exit)) ⌝ }
+    ensures { λ r. ⌜ FullContract
+        (strip (now (places .entry)) (now (lengths .entry)) (now (weights .entry)))
+        (fullLent (now (positions .entry)) (now (work .entry)))
+        (fullLent (now (positions .exit)) (now (work .exit))) r ⌝ }
 {
     let refused = check_pass(
         places,
         lengths,
         weights,
-        4000,
+        MOST_MARKS,
         positions.len(),
-        20000,
+        WORK_NAMED,
         work.len(),
     );
     if refused != 0 {
@@ -39,10 +45,10 @@ pub fn full(
     }
     let kept = table::fill(places, lengths, work);
     if kept == 0 {
-        table::clear(work, WORK);
+        work::clear(work);
         return NO_PLACING;
     }
     walk::walk(places, lengths, work, positions);
-    table::clear(work, WORK);
+    work::clear(work);
     0
 }

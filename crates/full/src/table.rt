@@ -1,10 +1,9 @@
 // The table of kept part layouts in the work area: four numbers a mark, filled from the last mark to the first.
 ghost use mathlib.Core.Path.{_≡_};
-ghost use mathlib.Core.List.{_++_};
 ghost use Prim.Native.Nat.{_+_, _*_, _≤_, _<_};
-ghost use lib.IntN.{pos};
-ghost use lib.ListN.{length, drop, replicate};
+ghost use lib.ListN.{length};
 ghost use lib.Seq.{sets};
+ghost use Rattle.geometry.specs.Strip.{mostMarks};
 ghost use Rattle.full.specs.inner.Row.{four};
 ghost use Rattle.full.specs.inner.Table.{Ready, Filled};
 use crate::kept::Kept;
@@ -13,7 +12,7 @@ use crate::kept::kept_before;
 
 // Puts the four reaches of the mark with index i into the table.
 fn store(work: &mut [i16], i: usize, kept: Kept)
-    requires { ⌜ (i < 4000) × (4 * i + 4 ≤ length (now work)) ⌝ }
+    requires { ⌜ (i < mostMarks) × (4 * i + 4 ≤ length (now work)) ⌝ }
     ensures { λ _. ⌜ now (work .exit) ≡ sets (now (work .entry)) (4 * i) (four (kept .reaches)) ⌝ }
 {
     let reaches = kept.reaches;
@@ -25,7 +24,8 @@ fn store(work: &mut [i16], i: usize, kept: Kept)
 }
 
 // Fills the table from the last mark to the first and returns the count of the first mark's kept part layouts; an empty strip,
-// which has nothing left to place, counts as one that keeps all four.
+// which has nothing left to place, counts as one that keeps all four. Where a mark keeps none, no mark before it does, and the rest
+// of the table is left as it is.
 pub fn fill(places: &[i16], lengths: &[u8], work: &mut [i16]) -> u8
     requires { ⌜ Ready (now places) (now lengths) (now work) ⌝ }
     ensures { λ r. ⌜ Filled (now (places .entry)) (now (lengths .entry)) (now (work .entry)) (now (work .exit)) r ⌝ }
@@ -41,20 +41,11 @@ pub fn fill(places: &[i16], lengths: &[u8], work: &mut [i16]) -> u8
     store(work, i, next);
     while 0 < i {
         next = kept_before(places[i - 1], lengths[i - 1], places[i], lengths[i], next);
+        if next.count == 0 {
+            return 0;
+        }
         i -= 1;
         store(work, i, next);
     }
     next.count
-}
-
-// Sets the first n numbers to 0.
-pub fn clear(work: &mut [i16], n: usize)
-    requires { ⌜ n ≤ length (now work) ⌝ }
-    ensures { λ _. ⌜ now (work .exit) ≡ replicate n (pos 0) ++ drop n (now (work .entry)) ⌝ }
-{
-    let mut i = 0;
-    while i < n {
-        work[i] = 0;
-        i += 1;
-    }
 }

@@ -1,16 +1,18 @@
 // The walk from the left: at each mark the first position, in the order 2, 3, 1, 4, that the table allows.
 ghost use mathlib.Core.Path.{_≡_};
-ghost use mathlib.Core.Bool.{_&&_};
+ghost use mathlib.Core.Bool.{true, _&&_};
+ghost use Prim.Native.Nat.{_-_};
 ghost use lib.Dec.{leb};
 ghost use Rattle.geometry.specs.Dot.{dot};
-ghost use Rattle.full.specs.inner.Rest.{pickByRow, Stepped};
+ghost use Rattle.geometry.specs.Mark.{placeInRange};
+ghost use Rattle.geometry.specs.Position.{code};
+ghost use Rattle.full.specs.inner.Rest.{firstPassed, pickByRow, Stepped};
 ghost use Rattle.full.specs.inner.Table.{WalkReady, Walked};
+use crate::passed::if_passed;
+use geometry::ends::EMPTY_REACH;
 use geometry::ends::left_end;
 use geometry::ends::right_end;
 use geometry::order::at_most;
-
-// The reach of a side without labels: less than any place.
-const EMPTY: i16 = -32767;
 
 // The position taken at a mark, and the reaches above and below after it.
 pub struct Taken {
@@ -23,48 +25,54 @@ pub struct Taken {
 fn leaves_rest(own: i16, left: i16, other: i16, bound: i16) -> bool
     ensures { λ r. ⌜ r ≡ (leb (dot own) (dot left) && leb (dot other) (dot bound)) ⌝ }
 {
-    at_most(own, left) && at_most(other, bound)
+    at_most(own, left) & at_most(other, bound)
 }
 
-// One step beside the reaches `above` and `below`: `left` and `right` are the outer ends of the mark's labels, and `first`,
-// `second` and `third` what positions 2, 3 and 1 leave to the other side.
+// The number of the position: 2, 3 or 1 by the first of their tests that is passed, else 4.
+fn number(two: bool, three: bool, one: bool) -> u8
+    ensures { λ r. ⌜ r ≡ code (firstPassed two three one) ⌝ }
+{
+    if two {
+        2
+    } else if three {
+        3
+    } else if one {
+        1
+    } else {
+        4
+    }
+}
+
+// One step beside the reaches `above` and `below`, at a mark whose positions 2, 3 and 1 leave `first`, `second` and `third` to the
+// other side.
 fn step(
     above: i16,
     below: i16,
     place: i16,
-    left: i16,
-    right: i16,
+    length: u8,
     first: i16,
     second: i16,
     third: i16,
 ) -> Taken
-    ensures { λ r. ⌜ Stepped (pickByRow (dot above) (dot below) (dot left) (dot place) (dot first) (dot second) (dot third)) above below place right (r .position) (r .above) (r .below) ⌝ }
+    requires { ⌜ placeInRange place ≡ true ⌝ }
+    ensures { λ r. ⌜ Stepped
+        above below place length
+        (pickByRow (dot above) (dot below) (dot place - length) (dot place) (dot first) (dot second) (dot third))
+        (r .position) (r .above) (r .below) ⌝ }
 {
-    if leaves_rest(above, left, below, first) {
-        return Taken {
-            position: 2,
-            above: place,
-            below,
-        };
-    }
-    if leaves_rest(below, left, above, second) {
-        return Taken {
-            position: 3,
-            above,
-            below: place,
-        };
-    }
-    if leaves_rest(above, place, below, third) {
-        return Taken {
-            position: 1,
-            above: right,
-            below,
-        };
-    }
+    let left = left_end(place, length);
+    let right = right_end(place, length);
+    let two = leaves_rest(above, left, below, first);
+    let three = leaves_rest(below, left, above, second);
+    let one = leaves_rest(above, place, below, third);
+    let above_right = if_passed(one, right, above);
+    let below_right = if_passed(one, below, right);
+    let above_rest = if_passed(three, above, above_right);
+    let below_rest = if_passed(three, place, below_right);
     Taken {
-        position: 4,
-        above,
-        below: right,
+        position: number(two, three, one),
+        above: if_passed(two, place, above_rest),
+        below: if_passed(two, below, below_rest),
     }
 }
 
@@ -75,21 +83,17 @@ pub fn walk(places: &[i16], lengths: &[u8], work: &[i16], positions: &mut [u8])
 {
     let mut at = Taken {
         position: 0,
-        above: EMPTY,
-        below: EMPTY,
+        above: EMPTY_REACH,
+        below: EMPTY_REACH,
     };
     let mut i = 0;
     while i < places.len() {
         let row = 4 * i;
-        let place = places[i];
-        let left = left_end(place, lengths[i]);
-        let right = right_end(place, lengths[i]);
         at = step(
             at.above,
             at.below,
-            place,
-            left,
-            right,
+            places[i],
+            lengths[i],
             work[row],
             work[row + 1],
             work[row + 2],

@@ -1,6 +1,8 @@
--- What the checks on entry, once passed, say of the three lists and of the marks that they make.
+-- A strip that passes the checks on entry has three lists of one length, at most `limit` marks, every value in its range and rising
+-- places: acceptance means that each check of the list was passed, and each check is a test of one of these. So its marks, one for each
+-- place, rise strictly and no label ends below the coordinates: a place in range has a dot of at least 2,768, and a length is at most 240.
 use mathlib.Core.Path.{_≡_, refl, sym, _∙_, ap}
-use mathlib.Core.Bool.{Bool, true, false, _&&_}
+use mathlib.Core.Bool.{Bool, true, false}
 use mathlib.Core.List.{List, [], _∷_}
 use Prim.Native.Nat.{ℕ, zero, suc, _≤_, _<_}
 use native.Mathlib.Omega.{arith}
@@ -8,26 +10,29 @@ use lib.Dec.{leb, eqb}
 use lib.IntN.{ℤ}
 use lib.Signed.{ltZ}
 use lib.ListN.{length, getD, drop}
-use borrow.Author.Tests.{leb-true, eqb-true, ltb-true}
+use borrow.Author.Tests.{le-leb, leb-true, eq-eqb, eqb-true, ltb-true}
 use Rattle.geometry.specs.Dot.{dot}
 use Rattle.geometry.specs.Lists.{every}
-use Rattle.geometry.specs.Mark.{marksOf, placeInRange, lengthInRange, weightInRange, rising}
-use Rattle.geometry.specs.Refusal.{Refusal, Verdict, accepted, afterCheck, firstFailure}
-use Rattle.geometry.specs.Entry.{sameLengths, goodMarks, entry}
-use Rattle.geometry.specs.Pass.{passVerdict}
+use Rattle.geometry.specs.Mark.{placeInRange, lengthInRange, weightInRange, rising, mostLength}
+use Rattle.geometry.specs.Strip.{Strip, strip, marksOfLists, marksOf}
+use Rattle.geometry.specs.Refusal.{Refusal, Verdict, accepted, afterCheck, firstFailure, listsUnequal, tooManyMarks, badMark}
+use Rattle.geometry.specs.Entry.{sameLengths, goodPlaces, goodLabels, goodMarks, entryChecks, entry}
+use Rattle.geometry.specs.Pass.{lentChecks, passVerdict}
 use Rattle.geometry.specs.inner.At.{markAt}
 use Rattle.geometry.specs.inner.Rising.{Rising}
 use Rattle.geometry.proofs.Split.{and-fst, and-snd}
+use Rattle.geometry.proofs.Verdicts.{then, failure-append}
 use Rattle.geometry.proofs.Dots.{dot-lt, range-dots, range-mag}
 
-pub record Accepted (limit : ℕ) (zs : List ℤ) (ls ws : List ℕ) : Type 0 where
-  pub same-lengths : length zs ≡ length ls
-  pub same-weights : length zs ≡ length ws
-  pub few : length zs ≤ limit
-  pub places-good : every placeInRange zs ≡ true
-  pub places-rise : rising zs ≡ true
-  pub lengths-good : every lengthInRange ls ≡ true
-  pub weights-good : every weightInRange ws ≡ true
+-- what the checks on entry, once passed, say of a strip
+pub record Accepted (limit : ℕ) (s : Strip) : Type 0 where
+  pub same-lengths : length (s .places) ≡ length (s .lengths)
+  pub same-weights : length (s .places) ≡ length (s .weights)
+  pub few : length (s .places) ≤ limit
+  pub places-good : every placeInRange (s .places) ≡ true
+  pub places-rise : rising (s .places) ≡ true
+  pub lengths-good : every lengthInRange (s .lengths) ≡ true
+  pub weights-good : every weightInRange (s .weights) ≡ true
 
 -- a list of checks that ends well passes its first check, and the rest of it
 check-passed : (t : Bool) (r : Refusal) (v : Verdict) → afterCheck t r v ≡ accepted → t ≡ true
@@ -38,40 +43,93 @@ rest-passed : (t : Bool) (r : Refusal) (v : Verdict) → afterCheck t r v ≡ ac
 rest-passed true r v e = e
 rest-passed false r v e = let z : _≡_ {A = ℕ} 0 1 = cc in absurd (omega arith)
 
-module _ (limit : ℕ) (zs : List ℤ) (ls ws : List ℕ) where
-  from-tests : sameLengths zs ls ws ≡ true → leb (length zs) limit ≡ true → goodMarks zs ls ws ≡ true → Accepted limit zs ls ws
-  from-tests s f g =
-      let g₁ = and-snd (every placeInRange zs) (rising zs && (every lengthInRange ls && every weightInRange ws)) g in
-      let g₂ = and-snd (rising zs) (every lengthInRange ls && every weightInRange ws) g₁ in
+module _ (limit : ℕ) (s : Strip) where
+  -- from the three tests
+  from-tests : sameLengths s ≡ true → leb (length (s .places)) limit ≡ true → goodMarks s ≡ true → Accepted limit s
+  from-tests same few good =
+      let lengths-equal = eqb (length (s .places)) (length (s .lengths)) in
+      let weights-equal = eqb (length (s .places)) (length (s .weights)) in
+      let places = and-fst (goodPlaces (s .places)) (goodLabels (s .lengths) (s .weights)) good in
+      let labels = and-snd (goodPlaces (s .places)) (goodLabels (s .lengths) (s .weights)) good in
       record {
-        same-lengths = eqb-true _ _ (and-fst (eqb (length zs) (length ls)) (eqb (length zs) (length ws)) s);
-        same-weights = eqb-true _ _ (and-snd (eqb (length zs) (length ls)) (eqb (length zs) (length ws)) s);
-        few = leb-true _ _ f;
-        places-good = and-fst (every placeInRange zs) (rising zs && (every lengthInRange ls && every weightInRange ws)) g;
-        places-rise = and-fst (rising zs) (every lengthInRange ls && every weightInRange ws) g₁;
-        lengths-good = and-fst (every lengthInRange ls) (every weightInRange ws) g₂;
-        weights-good = and-snd (every lengthInRange ls) (every weightInRange ws) g₂;
+        same-lengths = eqb-true _ _ (and-fst lengths-equal weights-equal same);
+        same-weights = eqb-true _ _ (and-snd lengths-equal weights-equal same);
+        few = leb-true _ _ few;
+        places-good = and-fst (every placeInRange (s .places)) (rising (s .places)) places;
+        places-rise = and-snd (every placeInRange (s .places)) (rising (s .places)) places;
+        lengths-good = and-fst (every lengthInRange (s .lengths)) (every weightInRange (s .weights)) labels;
+        weights-good = and-snd (every lengthInRange (s .lengths)) (every weightInRange (s .weights)) labels;
       }
 
-  pub entry-accepted : entry limit zs ls ws ≡ accepted → Accepted limit zs ls ws
-  unfolding entry firstFailure
-  entry-accepted e =
-      let e₁ = rest-passed (sameLengths zs ls ws) _ _ e in
-      let e₂ = rest-passed (leb (length zs) limit) _ _ e₁ in
-      from-tests (check-passed (sameLengths zs ls ws) _ _ e) (check-passed (leb (length zs) limit) _ _ e₁) (check-passed (goodMarks zs ls ws) _ _ e₂)
+  -- the checks on entry, with whatever verdict follows them
+  after-entry : (v : Verdict)
+      → afterCheck (sameLengths s) listsUnequal
+      (afterCheck (leb (length (s .places)) limit) tooManyMarks (afterCheck (goodMarks s) badMark v))
+      ≡ accepted
+      → Accepted limit s × (v ≡ accepted)
+  after-entry v e =
+      let counted = rest-passed (sameLengths s) _ _ e in
+      let judged = rest-passed (leb (length (s .places)) limit) _ _ counted in (
+        from-tests (check-passed (sameLengths s) _ _ e) (check-passed (leb (length (s .places)) limit) _ _ counted)
+            (check-passed (goodMarks s) _ _ judged),
+        rest-passed (goodMarks s) _ _ judged,
+      )
 
-  pub pass-accepted : (shortest named lent : ℕ) → passVerdict limit zs ls ws shortest named lent ≡ accepted
-      → Accepted limit zs ls ws × (length zs ≤ shortest) × (named ≤ lent)
+  -- from the verdict on entry
+  pub entry-accepted : entry limit s ≡ accepted → Accepted limit s
+  unfolding entry firstFailure
+  entry-accepted e = after-entry accepted e .0
+
+  -- from the verdict on checks 6 to 10
+  pub pass-accepted : (shortest named lent : ℕ) → passVerdict limit s shortest named lent ≡ accepted
+      → Accepted limit s × (length (s .places) ≤ shortest) × (named ≤ lent)
   unfolding passVerdict firstFailure
   pass-accepted shortest named lent e =
-      let e₁ = rest-passed (sameLengths zs ls ws) _ _ e in
-      let e₂ = rest-passed (leb (length zs) limit) _ _ e₁ in
-      let e₃ = rest-passed (goodMarks zs ls ws) _ _ e₂ in
-      let e₄ = rest-passed (leb (length zs) shortest) _ _ e₃ in (
-        from-tests (check-passed (sameLengths zs ls ws) _ _ e) (check-passed (leb (length zs) limit) _ _ e₁) (check-passed (goodMarks zs ls ws) _ _ e₂),
-        leb-true _ _ (check-passed (leb (length zs) shortest) _ _ e₃),
-        leb-true _ _ (check-passed (leb named lent) _ _ e₄),
+      let entered = after-entry _ e in
+      let listed = rest-passed (leb (length (s .places)) shortest) _ _ (entered .1) in (
+        entered .0,
+        leb-true _ _ (check-passed (leb (length (s .places)) shortest) _ _ (entered .1)),
+        leb-true _ _ (check-passed (leb named lent) _ _ listed),
       )
+
+-- an accepted strip passes the checks 6 to 10 too where there is room
+pub accept-pass : (limit : ℕ) (s : Strip) (shortest named lent : ℕ) → entry limit s ≡ accepted → length (s .places) ≤ shortest → named ≤ lent
+    → passVerdict limit s shortest named lent ≡ accepted
+unfolding passVerdict entry firstFailure
+accept-pass limit s shortest named lent e h k =
+    let two = lentChecks (length (s .places)) shortest named lent in
+    failure-append (entryChecks limit s) two ∙ ap (λ (v : Verdict). then v (firstFailure two)) e
+    ∙ rw (le-leb (length (s .places)) shortest h, le-leb named lent k) refl
+
+-- a strip of which the checks' tests hold passes them
+pub accepted-entry : (limit : ℕ) (s : Strip) → Accepted limit s → entry limit s ≡ accepted
+unfolding entry firstFailure
+accepted-entry limit s a =
+    rw (
+      eq-eqb (length (s .places)) (length (s .lengths)) (a .same-lengths),
+      eq-eqb (length (s .places)) (length (s .weights)) (a .same-weights),
+      le-leb (length (s .places)) limit (a .few),
+      a .places-good,
+      a .places-rise,
+      a .lengths-good,
+      a .weights-good,
+    )
+    refl
+
+-- and a call that takes fewer marks, but not fewer than it has, accepts it too
+pub accept-shorter : (limit fewer : ℕ) (s : Strip) → entry limit s ≡ accepted → length (s .places) ≤ fewer → entry fewer s ≡ accepted
+accept-shorter limit fewer s e h =
+    let a = entry-accepted limit s e in
+    accepted-entry fewer s
+    (record {
+      same-lengths = a .same-lengths;
+      same-weights = a .same-weights;
+      few = h;
+      places-good = a .places-good;
+      places-rise = a .places-rise;
+      lengths-good = a .lengths-good;
+      weights-good = a .weights-good;
+    })
 
 -- every element of a good list is good
 pub every-at : {A : Type 0} (p : A → Bool) (xs : List A) (d : A) (i : ℕ) → every p xs ≡ true → i < length xs → p (getD xs i d) ≡ true
@@ -80,43 +138,67 @@ every-at p [] d i e h = absurd (omega arith)
 every-at p (x ∷ xs) d zero e h = and-fst (p x) (every p xs) e
 every-at p (x ∷ xs) d (suc i) e h = every-at p xs d i (and-snd (p x) (every p xs) e) (omega arith)
 
+-- three lists of one length make as many marks
+length-listed : (zs : List ℤ) (ls ws : List ℕ) → length zs ≡ length ls → length zs ≡ length ws → length (marksOfLists zs ls ws) ≡ length zs
+unfolding marksOfLists
+length-listed [] ls ws e f = refl
+length-listed (z ∷ zs) [] ws e f = absurd (omega arith)
+length-listed (z ∷ zs) (l ∷ ls) [] e f = absurd (omega arith)
+length-listed (z ∷ zs) (l ∷ ls) (w ∷ ws) e f = ap suc (length-listed zs ls ws (omega arith) (omega arith))
+
 -- one mark for each place
-pub length-marks : (zs : List ℤ) (ls ws : List ℕ) → length zs ≡ length ls → length zs ≡ length ws → length (marksOf zs ls ws) ≡ length zs
-unfolding marksOf
-length-marks [] ls ws e f = refl
-length-marks (z ∷ zs) [] ws e f = absurd (omega arith)
-length-marks (z ∷ zs) (l ∷ ls) [] e f = absurd (omega arith)
-length-marks (z ∷ zs) (l ∷ ls) (w ∷ ws) e f = ap suc (length-marks zs ls ws (omega arith) (omega arith))
+pub length-marks : (s : Strip) → length (s .places) ≡ length (s .lengths) → length (s .places) ≡ length (s .weights)
+    → length (marksOf s) ≡ length (s .places)
+length-marks s e f = length-listed (s .places) (s .lengths) (s .weights) e f
+
+-- the marks of three lists from an index on begin with the mark there
+from-lists : (zs : List ℤ) (ls ws : List ℕ) (i : ℕ) → length zs ≡ length ls → length zs ≡ length ws → i < length zs
+    → drop i (marksOfLists zs ls ws) ≡ markAt (strip zs ls ws) i ∷ drop (suc i) (marksOfLists zs ls ws)
+unfolding marksOfLists
+from-lists [] ls ws i e f h = absurd (omega arith)
+from-lists (z ∷ zs) [] ws i e f h = absurd (omega arith)
+from-lists (z ∷ zs) (l ∷ ls) [] i e f h = absurd (omega arith)
+from-lists (z ∷ zs) (l ∷ ls) (w ∷ ws) zero e f h = refl
+from-lists (z ∷ zs) (l ∷ ls) (w ∷ ws) (suc i) e f h = from-lists zs ls ws i (omega arith) (omega arith) (omega arith)
 
 -- what is left of the marks begins with the mark at the index
-pub marks-from : (zs : List ℤ) (ls ws : List ℕ) (i : ℕ) → length zs ≡ length ls → length zs ≡ length ws → i < length zs
-    → drop i (marksOf zs ls ws) ≡ markAt zs ls ws i ∷ drop (suc i) (marksOf zs ls ws)
-unfolding marksOf
-marks-from [] ls ws i e f h = absurd (omega arith)
-marks-from (z ∷ zs) [] ws i e f h = absurd (omega arith)
-marks-from (z ∷ zs) (l ∷ ls) [] i e f h = absurd (omega arith)
-marks-from (z ∷ zs) (l ∷ ls) (w ∷ ws) zero e f h = refl
-marks-from (z ∷ zs) (l ∷ ls) (w ∷ ws) (suc i) e f h = marks-from zs ls ws i (omega arith) (omega arith) (omega arith)
+pub marks-from : (s : Strip) (i : ℕ) → length (s .places) ≡ length (s .lengths) → length (s .places) ≡ length (s .weights)
+    → i < length (s .places) → drop i (marksOf s) ≡ markAt s i ∷ drop (suc i) (marksOf s)
+marks-from s i e f h = from-lists (s .places) (s .lengths) (s .weights) i e f h
 
 -- a good place leaves more room than any good length
 one-mark : (z : ℤ) (l : ℕ) → placeInRange z ≡ true → lengthInRange l ≡ true → l < dot z
-one-mark z l p q = omega (arith, range-dots z p, leb-true l 240 (and-snd (leb 1 l) (leb l 240) q))
+one-mark z l p q = omega (arith, range-dots z p, leb-true l mostLength (and-snd (leb 1 l) (leb l mostLength) q))
 
-rise : (zs : List ℤ) (ls ws : List ℕ) → every placeInRange zs ≡ true → rising zs ≡ true → every lengthInRange ls ≡ true → Rising (marksOf zs ls ws)
-unfolding marksOf every rising
+-- the first of a good list, and the rest of it
+module _ {A : Type 0} (p : A → Bool) (x : A) (xs : List A) where
+  pub first-good : every p (x ∷ xs) ≡ true → p x ≡ true
+  unfolding every
+  first-good e = and-fst (p x) (every p xs) e
+
+  pub rest-good : every p (x ∷ xs) ≡ true → every p xs ≡ true
+  unfolding every
+  rest-good e = and-snd (p x) (every p xs) e
+
+-- places in range that rise, with lengths in range, make marks that rise
+rise : (zs : List ℤ) (ls ws : List ℕ) → every placeInRange zs ≡ true → rising zs ≡ true → every lengthInRange ls ≡ true
+    → Rising (marksOfLists zs ls ws)
+unfolding marksOfLists rising
 rise [] ls ws p r q = tt
 rise (z ∷ zs) [] ws p r q = tt
 rise (z ∷ zs) (l ∷ ls) [] p r q = tt
-rise (z ∷ []) (l ∷ ls) (w ∷ ws) p r q = one-mark z l (and-fst (placeInRange z) true p) (and-fst (lengthInRange l) (every lengthInRange ls) q)
-rise (z ∷ y ∷ zs) (l ∷ []) (w ∷ ws) p r q = one-mark z l (and-fst (placeInRange z) (every placeInRange (y ∷ zs)) p) (and-fst (lengthInRange l) true q)
-rise (z ∷ y ∷ zs) (l ∷ k ∷ ls) (w ∷ []) p r q = one-mark z l (and-fst (placeInRange z) (every placeInRange (y ∷ zs)) p) (and-fst (lengthInRange l) (every lengthInRange (k ∷ ls)) q)
+rise (z ∷ []) (l ∷ ls) (w ∷ ws) p r q = one-mark z l (first-good placeInRange z [] p) (first-good lengthInRange l ls q)
+rise (z ∷ y ∷ zs) (l ∷ []) (w ∷ ws) p r q = one-mark z l (first-good placeInRange z (y ∷ zs) p) (first-good lengthInRange l [] q)
+rise (z ∷ y ∷ zs) (l ∷ k ∷ ls) (w ∷ []) p r q = one-mark z l (first-good placeInRange z (y ∷ zs) p) (first-good lengthInRange l (k ∷ ls) q)
 rise (z ∷ y ∷ zs) (l ∷ k ∷ ls) (w ∷ v ∷ ws) p r q =
-    let p₀ = and-fst (placeInRange z) (every placeInRange (y ∷ zs)) p in
-    let p₁ = and-snd (placeInRange z) (every placeInRange (y ∷ zs)) p in (
-      one-mark z l p₀ (and-fst (lengthInRange l) (every lengthInRange (k ∷ ls)) q),
-      ltb-true _ _ (sym (dot-lt z y (range-mag z p₀) (range-mag y (and-fst (placeInRange y) (every placeInRange zs) p₁))) ∙ and-fst (ltZ z y) (rising (y ∷ zs)) r),
-      rise (y ∷ zs) (k ∷ ls) (v ∷ ws) p₁ (and-snd (ltZ z y) (rising (y ∷ zs)) r) (and-snd (lengthInRange l) (every lengthInRange (k ∷ ls)) q),
+    let here = first-good placeInRange z (y ∷ zs) p in
+    let behind = rest-good placeInRange z (y ∷ zs) p in
+    let next = first-good placeInRange y zs behind in (
+      one-mark z l here (first-good lengthInRange l (k ∷ ls) q),
+      ltb-true _ _ (sym (dot-lt z y (range-mag z here) (range-mag y next)) ∙ and-fst (ltZ z y) (rising (y ∷ zs)) r),
+      rise (y ∷ zs) (k ∷ ls) (v ∷ ws) behind (and-snd (ltZ z y) (rising (y ∷ zs)) r) (rest-good lengthInRange l (k ∷ ls) q),
     )
 
-pub accepted-rising : (limit : ℕ) (zs : List ℤ) (ls ws : List ℕ) → Accepted limit zs ls ws → Rising (marksOf zs ls ws)
-accepted-rising limit zs ls ws a = rise zs ls ws (a .places-good) (a .places-rise) (a .lengths-good)
+-- so do the marks of a strip that is accepted
+pub accepted-rising : (limit : ℕ) (s : Strip) → Accepted limit s → Rising (marksOf s)
+accepted-rising limit s a = rise (s .places) (s .lengths) (s .weights) (a .places-good) (a .places-rise) (a .lengths-good)

@@ -34,12 +34,15 @@ pub record Smaller (p q : Pair) : Type 0 where
   pub smaller-less : p .smaller ≤ q .smaller
   pub falls : p .larger + p .smaller < q .larger + q .smaller
 
+-- no reach is greater, and the sum of both falls
 smaller : (p q : Pair) → beats p q ≡ true → Smaller p q
 smaller p q b =
     let l : p .larger ≤ q .larger = leb-true _ _ (and-fst (leb (p .larger) (q .larger)) _ b) in
     let b′ = and-snd (leb (p .larger) (q .larger)) (leb (p .smaller) (q .smaller) && (ltb (p .larger) (q .larger) || ltb (p .smaller) (q .smaller))) b in
     let s : p .smaller ≤ q .smaller = leb-true _ _ (and-fst (leb (p .smaller) (q .smaller)) _ b′) in
-    let one = or-cases (ltb (p .larger) (q .larger)) (ltb (p .smaller) (q .smaller)) (and-snd (leb (p .smaller) (q .smaller)) (ltb (p .larger) (q .larger) || ltb (p .smaller) (q .smaller)) b′) in
+    let one =
+    or-cases (ltb (p .larger) (q .larger)) (ltb (p .smaller) (q .smaller))
+    (and-snd (leb (p .smaller) (q .smaller)) (ltb (p .larger) (q .larger) || ltb (p .smaller) (q .smaller)) b′) in
     record {
       larger-less = l;
       smaller-less = s;
@@ -47,13 +50,15 @@ smaller p q b =
     }
 
 -- side by side, or with the sides exchanged
-either-way : (a b a′ b′ : ℕ) → max a′ b′ ≤ max a b → min a′ b′ ≤ min a b → ((a′ ≤ a) × (b′ ≤ b)) ⊎ ((a′ ≤ b) × (b′ ≤ a))
+either-way : (a b a′ b′ : ℕ) → max a′ b′ ≤ max a b → min a′ b′ ≤ min a b
+    → ((a′ ≤ a) × (b′ ≤ b)) ⊎ ((a′ ≤ b) × (b′ ≤ a))
 either-way a b a′ b′ h k =
     elim (decLe b a) [
       | yes u ↦ elim (decLe b′ a′) [ yes v ↦ inl (omega arith, omega arith) | no v ↦ inr (omega arith, omega arith) ]
       | no u ↦ elim (decLe b′ a′) [ yes v ↦ inr (omega arith, omega arith) | no v ↦ inl (omega arith, omega arith) ]
     ]
 
+-- a mirror image labels all marks too
 mirror-labelled : (ps : List Position) → allLabelled ps ≡ true → allLabelled (map mirror ps) ≡ true
 unfolding allLabelled
 mirror-labelled [] e = refl
@@ -71,7 +76,8 @@ pub record Begun (g : ℕ) (ms ns : List Mark) : Type 0 where
 
 module _ (g : ℕ) (ms ns : List Mark) (rise : Rising ms) (big : Beyond 1 ms) where
   -- the rest goes behind a part layout with no greater reaches
-  follows : (ps qs rs : List Position) → Go g 1 1 ms ps → Go g 1 1 ms qs → reach above ms qs ≤ reach above ms ps → reach below ms qs ≤ reach below ms ps
+  follows : (ps qs rs : List Position) → Go g 1 1 ms ps → Go g 1 1 ms qs → reach above ms qs ≤ reach above ms ps
+      → reach below ms qs ≤ reach below ms ps
       → Go g (endAbove g 1 ms ps) (endBelow g 1 ms ps) ns rs → Go g (endAbove g 1 ms qs) (endBelow g 1 ms qs) ns rs
   follows ps qs rs hp hq la lb h =
       smaller-reaches-go g _ _ _ _ ns rs
@@ -79,7 +85,8 @@ module _ (g : ℕ) (ms ns : List Mark) (rise : Rising ms) (big : Beyond 1 ms) wh
       (rw (end-below g 1 1 ms ps big hp, end-below g 1 1 ms qs big hq) (effective-less g (reach below ms ps) (reach below ms qs) lb)) h
 
   -- or its mirror image does
-  follows-mirrored : (ps qs rs : List Position) → Go g 1 1 ms ps → Go g 1 1 ms qs → reach above ms qs ≤ reach below ms ps → reach below ms qs ≤ reach above ms ps
+  follows-mirrored : (ps qs rs : List Position) → Go g 1 1 ms ps → Go g 1 1 ms qs → reach above ms qs ≤ reach below ms ps
+      → reach below ms qs ≤ reach above ms ps
       → Go g (endAbove g 1 ms ps) (endBelow g 1 ms ps) ns rs → Go g (endAbove g 1 ms qs) (endBelow g 1 ms qs) ns (map mirror rs)
   follows-mirrored ps qs rs hp hq la lb h =
       smaller-reaches-go g _ _ _ _ ns (map mirror rs)
@@ -87,6 +94,7 @@ module _ (g : ℕ) (ms ns : List Mark) (rise : Rising ms) (big : Beyond 1 ms) wh
       (rw (end-above g 1 1 ms ps big hp, end-below g 1 1 ms qs big hq) (effective-less g (reach above ms ps) (reach below ms qs) lb))
       (mirror-go g (endAbove g 1 ms ps) (endBelow g 1 ms ps) ns rs h)
 
+  -- the sum of both reaches, which falls at each step
   abbrev height : List Position → ℕ
   height ps = pairOf ms ps .larger + pairOf ms ps .smaller
 
@@ -104,7 +112,7 @@ module _ (g : ℕ) (ms ns : List Mark) (rise : Rising ms) (big : Beyond 1 ms) wh
       (λ le. leads (map mirror rs) layout (mirror-labelled rs labels) (follows-mirrored ps qs rs hp hq (le .0) (le .1) h))
       (either-way (reach above ms ps) (reach below ms ps) (reach above ms qs) (reach below ms qs) (less .larger-less) (less .smaller-less))
 
-  -- done, or onward
+  -- a part layout that is unbeaten is what is wanted; one that is beaten leads to a smaller height
   step : (n : ℕ) → ((qs : List Position) → height qs < n → Leads qs) → (ps : List Position) → height ps ≤ n → Leads ps
   unfolding unbeaten
   step n lower ps few rs placed labels h =
@@ -124,19 +132,23 @@ module _ (g : ℕ) (ms ns : List Mark) (rise : Rising ms) (big : Beyond 1 ms) wh
           let less = smaller (pairOf ms (f .element)) (pairOf ms ps) (not-false _ (f .fails)) in
           onward ps (f .element) (lower (f .element) (omega (arith, less .falls))) (f .listed) less rs placed labels h
 
+  -- by induction on the height
   descend : (n : ℕ) (ps : List Position) → height ps ≤ n → Leads ps
   descend zero ps few = step zero (λ qs lt. absurd (omega arith)) ps few
   descend (suc n) ps few = step (suc n) (λ qs lt. descend n qs (omega arith)) ps few
 
-  pub begun : (ps rs : List Position) → IsPlacing g ms ps → allLabelled rs ≡ true → Go g (endAbove g 1 ms ps) (endBelow g 1 ms ps) ns rs → Begun g ms ns
+  -- so every part layout with a rest behind it leads to an unbeaten one
+  pub begun : (ps rs : List Position) → IsPlacing g ms ps → allLabelled rs ≡ true → Go g (endAbove g 1 ms ps) (endBelow g 1 ms ps) ns rs
+      → Begun g ms ns
   begun ps rs = descend (height ps) ps (omega arith) rs
 
--- labels of two parts
+-- every entry of the first k and of the others is a label, and of two such lists put together
 labelled-take : (k : ℕ) (ps : List Position) → allLabelled ps ≡ true → allLabelled (take k ps) ≡ true
 unfolding allLabelled
 labelled-take zero ps e = refl
 labelled-take (suc k) [] e = refl
-labelled-take (suc k) (p ∷ ps) e = both (labelled p) (allLabelled (take k ps)) (and-fst (labelled p) (allLabelled ps) e) (labelled-take k ps (and-snd (labelled p) (allLabelled ps) e))
+labelled-take (suc k) (p ∷ ps) e =
+    both (labelled p) (allLabelled (take k ps)) (and-fst (labelled p) (allLabelled ps) e) (labelled-take k ps (and-snd (labelled p) (allLabelled ps) e))
 
 labelled-drop : (k : ℕ) (ps : List Position) → allLabelled ps ≡ true → allLabelled (drop k ps) ≡ true
 unfolding allLabelled
@@ -147,8 +159,10 @@ labelled-drop (suc k) (p ∷ ps) e = labelled-drop k ps (and-snd (labelled p) (a
 labelled-append : (ps qs : List Position) → allLabelled ps ≡ true → allLabelled qs ≡ true → allLabelled (ps ++ qs) ≡ true
 unfolding allLabelled
 labelled-append [] qs e f = f
-labelled-append (p ∷ ps) qs e f = both (labelled p) (allLabelled (ps ++ qs)) (and-fst (labelled p) (allLabelled ps) e) (labelled-append ps qs (and-snd (labelled p) (allLabelled ps) e) f)
+labelled-append (p ∷ ps) qs e f =
+    both (labelled p) (allLabelled (ps ++ qs)) (and-fst (labelled p) (allLabelled ps) e) (labelled-append ps qs (and-snd (labelled p) (allLabelled ps) e) f)
 
+-- the first k marks rise, and lie where all marks do
 pub rising-take : (k : ℕ) (ms : List Mark) → Rising ms → Rising (take k ms)
 rising-take zero ms r = tt
 rising-take (suc k) [] r = tt
@@ -162,14 +176,20 @@ beyond-take x (suc k) [] b = tt
 beyond-take x (suc k) (m ∷ ms) b = (b .0, beyond-take x k ms (b .1))
 
 -- the same of a strip and its first k marks
-pub begins-unbeaten : (g k : ℕ) (ms : List Mark) (ps : List Position) → Rising ms → Beyond 1 ms → k ≤ length ms → IsPlacing g ms ps → BeginsUnbeaten g k ms
+pub begins-unbeaten : (g k : ℕ) (ms : List Mark) (ps : List Position) → Rising ms → Beyond 1 ms → k ≤ length ms → IsPlacing g ms ps
+    → BeginsUnbeaten g k ms
 begins-unbeaten g k ms ps rise big short placed =
     let n : length ps ≡ length ms = free-length g ms ps (placed .is-free) in
-    let whole : Go g 1 1 (take k ms ++ drop k ms) (take k ps ++ drop k ps) = rw (take-append-drop k ms, take-append-drop k ps) (free-iff-go g ms ps rise .0 (placed .is-free)) in
+    let whole : Go g 1 1 (take k ms ++ drop k ms) (take k ps ++ drop k ps) =
+    rw (take-append-drop k ms, take-append-drop k ps) (free-iff-go g ms ps rise .0 (placed .is-free)) in
     let parts = go-split g 1 1 (take k ms) (drop k ms) (take k ps) (drop k ps) (length-take-le k ps (omega arith) ∙ sym (length-take-le k ms short)) whole in
-    let first-placed : IsPlacing g (take k ms) (take k ps) = record { is-free = free-iff-go g (take k ms) (take k ps) (rising-take k ms rise) .1 (parts .0); labels-all = labelled-take k ps (placed .labels-all) } in
-    let b = begun g (take k ms) (drop k ms) (rising-take k ms rise) (beyond-take 1 k ms big) (take k ps) (drop k ps) first-placed (labelled-drop k ps (placed .labels-all)) (parts .1) in
-    let e : take k (b .first ++ b .rest) ≡ b .first = take-at (b .first) (b .rest) k (free-length g (take k ms) (b .first) (b .first-placed .is-free) ∙ length-take-le k ms short) in
+    let first-placed : IsPlacing g (take k ms) (take k ps) =
+    record { is-free = free-iff-go g (take k ms) (take k ps) (rising-take k ms rise) .1 (parts .0); labels-all = labelled-take k ps (placed .labels-all) } in
+    let b =
+    begun g (take k ms) (drop k ms) (rising-take k ms rise) (beyond-take 1 k ms big) (take k ps) (drop k ps) first-placed
+    (labelled-drop k ps (placed .labels-all)) (parts .1) in
+    let e : take k (b .first ++ b .rest) ≡ b .first =
+    take-at (b .first) (b .rest) k (free-length g (take k ms) (b .first) (b .first-placed .is-free) ∙ length-take-le k ms short) in
     record {
       placing = b .first ++ b .rest;
       is-placing = record {

@@ -1,4 +1,5 @@
--- `bestSum` is the sum of an overlap-free choice, and no such choice exceeds it.
+-- `bestSum` is the sum of an overlap-free choice, and no such choice exceeds it: every overlap-free choice has one position for each mark,
+-- so it is among those that are enumerated, and the greatest over them is attained since the choice without any label is overlap-free.
 use mathlib.Core.Path.{_≡_, refl, sym, ap}
 use mathlib.Core.Bool.{true}
 use mathlib.Core.List.{List, [], _∷_}
@@ -29,6 +30,7 @@ position-listed (at below leftward) = inr (inr (inl refl))
 position-listed (at above rightward) = inr (inr (inr (inl refl)))
 position-listed (at below rightward) = inr (inr (inr (inr (inl refl))))
 
+-- so every choice is made of them
 choice-spelled : (c : List Position) → Spelled everyPosition c
 choice-spelled [] = tt
 choice-spelled (p ∷ c) = (position-listed p, choice-spelled c)
@@ -42,6 +44,7 @@ abbrev bare : List Mark → List Position
 bare [] = []
 bare (m ∷ ms) = unlabelled ∷ bare ms
 
+-- a mark without a label overlaps nothing
 apart-bare : (g : ℕ) (m : Mark) (ms : List Mark) (c : List Position) → apart g m unlabelled ms c ≡ true
 unfolding apart
 apart-bare g m [] c = refl
@@ -64,8 +67,10 @@ pub record BestChoice (g : ℕ) (ms : List Mark) : Type 0 where
   pub is-free : free g ms choice ≡ true
   pub is-best : sumOf ms choice ≡ bestSum g ms
 
+-- there is one
 pub best-attained : (g : ℕ) (ms : List Mark) → BestChoice g ms
 unfolding bestSum
 best-attained g ms =
-    let a = greatest-attained (free g ms) (sumOf ms) (wordsOf everyPosition (length ms)) (bare ms) (free-listed g ms (bare ms) (free-bare g ms)) (free-bare g ms) in
+    let a =
+    greatest-attained (free g ms) (sumOf ms) (wordsOf everyPosition (length ms)) (bare ms) (free-listed g ms (bare ms) (free-bare g ms)) (free-bare g ms) in
     record { choice = a .element; is-free = a .passes; is-best = a .worth }

@@ -1,4 +1,6 @@
 -- After the last mark its own label is the rightmost on its side, so one of the two reaches is that label's right end.
+-- A label that the walk puts on a side ends beyond every label before it there. So putting a label in front changes no reach of a side on
+-- which a later label lies, and by induction from the last mark backwards the reach of its side stays that label's right end.
 use mathlib.Core.Path.{_≡_, refl, ap}
 use mathlib.Core.Bool.{true}
 use mathlib.Core.Logic.{_⊎_, inl, inr, ⊎-elim}
@@ -29,11 +31,13 @@ lastDirection [] = leftward
 lastDirection (p ∷ []) = directionOf p
 lastDirection (p ∷ q ∷ ps) = lastDirection (q ∷ ps)
 
+-- the last mark lies where all marks do
 last-beyond : (x : ℕ) (m : Mark) (ms : List Mark) → Beyond x (m ∷ ms) → x < lastMark m ms .place
 unfolding lastMark
 last-beyond x m [] b = b .0
 last-beyond x m (n ∷ ms) b = last-beyond x n ms (b .1)
 
+-- a walk that puts a label below reaches at least as far as it did
 reach-after-below : (g a b : ℕ) (ms : List Mark) (ps : List Position) → Go g a b ms ps → 1 < reach below ms ps → b ≤ reach below ms ps
 reach-after-below g a b ms ps h k =
     let e : reach above ms (map mirror ps) ≡ reach below ms ps = mirror-reach above ms ps in
@@ -54,10 +58,11 @@ front-below g a b m unlabelled ms ps e big h r = r
 front-below g a b m (at above d) ms ps e big h r = r
 front-below g a b m (at below d) ms ps e big h r = omega (arith, reach-after-below g a (rightEnd m d + g) ms ps (h .1) (omega arith))
 
--- one of the reaches is the right end of the last label
+-- the right end of the last label
 abbrev pub lastEnd : Mark → List Mark → List Position → ℕ
 lastEnd m ms ps = rightEnd (lastMark m ms) (lastDirection ps)
 
+-- it is one of the two reaches, where every mark is labelled
 pub own-last : (g a b : ℕ) (m : Mark) (ms : List Mark) (ps : List Position) → Beyond 1 (m ∷ ms) → allLabelled ps ≡ true → Go g a b (m ∷ ms) ps
     → (reach above (m ∷ ms) ps ≡ lastEnd m ms ps) ⊎ (reach below (m ∷ ms) ps ≡ lastEnd m ms ps)
 unfolding allLabelled reach lastMark lastDirection
@@ -70,16 +75,19 @@ own-last g a b m (n ∷ ms) (at s d ∷ []) big l h = absurd (h .1)
 own-last g a b m (n ∷ ms) (at s d ∷ q ∷ ps) big l h =
     let e : ℕ = lastEnd n ms (q ∷ ps) in
     let beyond : 1 < e = omega (arith, last-beyond 1 n ms (big .1), right-ge (lastMark n ms) (lastDirection (q ∷ ps))) in
-    ⊎-elim (λ r. inl (front-above g a b m (at s d) (n ∷ ms) (q ∷ ps) e beyond h r)) (λ r. inr (front-below g a b m (at s d) (n ∷ ms) (q ∷ ps) e beyond h r))
+    ⊎-elim (λ r. inl (front-above g a b m (at s d) (n ∷ ms) (q ∷ ps) e beyond h r))
+    (λ r. inr (front-below g a b m (at s d) (n ∷ ms) (q ∷ ps) e beyond h r))
     (own-last g (nextAbove g a m (at s d)) (nextBelow g b m (at s d)) n ms (q ∷ ps) (big .1) l (h .1))
 
 -- the pair of an end and of the other side's reach
 abbrev pub pairing : ℕ → ℕ → Pair
 pairing e o = record { larger = max e o; smaller = min e o }
 
+-- a pair is known by its two reaches
 pub pair-is : {p q : Pair} → p .larger ≡ q .larger → p .smaller ≡ q .smaller → p ≡ q
 pair-is e f = λ i. record { larger = e i; smaller = f i }
 
+-- the pair of a part layout is that of its last label's end and of the other side's reach
 pub pair-of-last : (g a b : ℕ) (m : Mark) (ms : List Mark) (ps : List Position) → Beyond 1 (m ∷ ms) → allLabelled ps ≡ true → Go g a b (m ∷ ms) ps
     → (o : ℕ) × (pairOf (m ∷ ms) ps ≡ pairing (lastEnd m ms ps) o)
 pair-of-last g a b m ms ps big l h =

@@ -1,10 +1,14 @@
 -- Laws that belong to no one function, in reading order.
 pub mod Split
 pub mod Dots
+pub mod Places
 pub mod Every
+pub mod Lent
 pub mod Verdicts
 pub mod Accepted
 pub mod SignedOverlap
+pub mod Distances
+pub mod SignedSliding
 pub mod Rising
 pub mod Machine
 pub mod Reaches
@@ -13,9 +17,10 @@ pub mod Kept
 pub mod LastLabel
 pub mod Best
 pub mod Whole
+pub mod FirstPlacing
 pub mod Layouts
 pub mod Beginnings
-pub mod Demand3
+pub mod TwoUnbeaten
 pub mod Starred
 pub mod AnyWord
 pub mod Sliding

@@ -8,12 +8,12 @@ use mathlib.Core.List.{List, [], _∷_, map}
 use Prim.Native.Nat.{ℕ, _+_, _≤_, _<_}
 use native.Mathlib.Omega.{arith}
 use lib.Dec.{ltb}
-use borrow.Author.Tests.{le-ltb, lt-ltb, ltb-false}
+use borrow.Author.Tests.{le-leb, leb-true, le-ltb, lt-ltb, ltb-false}
 use Rattle.geometry.specs.Mark.{Mark}
-use Rattle.geometry.specs.Position.{above, below, Direction, leftward, rightward, Position, unlabelled, at, mirror}
+use Rattle.geometry.specs.Position.{above, below, Direction, leftward, rightward, Position, unlabelled, at, mirror, ownReach}
 use Rattle.geometry.specs.Overlap.{leftEnd, rightEnd, overlaps, apart, free}
 use Rattle.geometry.specs.inner.Rising.{Rising}
-use Rattle.geometry.specs.inner.Machine.{Room, nextAbove, nextBelow, Go}
+use Rattle.geometry.specs.inner.Machine.{Room, roomFor, nextAbove, nextBelow, Go}
 use Rattle.geometry.proofs.Split.{both, and-fst, and-snd}
 use Rattle.geometry.proofs.Rising.{Beyond, rising-rest, rising-first, rising-beyond}
 
@@ -25,6 +25,15 @@ left-le m rightward = omega arith
 pub right-ge : (m : Mark) (d : Direction) → m .place ≤ rightEnd m d
 right-ge m leftward = omega arith
 right-ge m rightward = omega arith
+
+-- the test of room is the room of the walk
+pub room-passes : (a b : ℕ) (m : Mark) (p : Position) → Room a b m p → roomFor a b m p ≡ true
+room-passes a b m unlabelled r = refl
+room-passes a b m (at s d) r = le-leb (ownReach s a b) (leftEnd m d) r
+
+pub passes-room : (a b : ℕ) (m : Mark) (p : Position) → roomFor a b m p ≡ true → Room a b m p
+passes-room a b m unlabelled e = tt
+passes-room a b m (at s d) e = leb-true (ownReach s a b) (leftEnd m d) e
 
 -- what fits after a label fits before it
 narrower : (g a b : ℕ) (m n : Mark) (p q : Position) → m .place < n .place → Room a b m p
@@ -40,10 +49,12 @@ narrower g a b m n (at below d) (at below e) h r k = omega (arith, left-le m d, 
 clear : (g a b : ℕ) (m n : Mark) (p q : Position) → Room (nextAbove g a m p) (nextBelow g b m p) n q → overlaps g m p n q ≡ false
 clear g a b m n unlabelled q k = refl
 clear g a b m n (at s d) unlabelled k = refl
-clear g a b m n (at above d) (at above e) k = ap (λ (t : Bool). ltb (leftEnd m d) (rightEnd n e + g) && t) (le-ltb _ _ k) ∙ and-false (ltb (leftEnd m d) (rightEnd n e + g))
+clear g a b m n (at above d) (at above e) k =
+    ap (λ (t : Bool). ltb (leftEnd m d) (rightEnd n e + g) && t) (le-ltb _ _ k) ∙ and-false (ltb (leftEnd m d) (rightEnd n e + g))
 clear g a b m n (at above d) (at below e) k = refl
 clear g a b m n (at below d) (at above e) k = refl
-clear g a b m n (at below d) (at below e) k = ap (λ (t : Bool). ltb (leftEnd m d) (rightEnd n e + g) && t) (le-ltb _ _ k) ∙ and-false (ltb (leftEnd m d) (rightEnd n e + g))
+clear g a b m n (at below d) (at below e) k =
+    ap (λ (t : Bool). ltb (leftEnd m d) (rightEnd n e + g) && t) (le-ltb _ _ k) ∙ and-false (ltb (leftEnd m d) (rightEnd n e + g))
 
 -- a later label on the same side that does not overlap begins where the earlier one ends, or beyond
 after : (g : ℕ) (m n : Mark) (d e : Direction) → m .place < n .place
@@ -51,6 +62,7 @@ after : (g : ℕ) (m n : Mark) (d e : Direction) → m .place < n .place
 after g m n d e h t =
     ltb-false _ _ (rw (lt-ltb (leftEnd m d) (rightEnd n e + g) (omega (arith, left-le m d, right-ge n e))) at t)
 
+-- so what fits before a label and does not overlap it fits after it
 wider : (g a b : ℕ) (m n : Mark) (p q : Position) → m .place < n .place → Room a b n q → overlaps g m p n q ≡ false
     → Room (nextAbove g a m p) (nextBelow g b m p) n q
 wider g a b m n unlabelled q h k t = k
@@ -72,15 +84,19 @@ not-false-true t e = rw e refl
 not-true-false : (t : Bool) → not t ≡ true → t ≡ false
 not-true-false t e = borrow.Author.Tests.not-true t e
 
+-- labels that fit after a label are apart from it, and fit before it too
 all-before : (g a b : ℕ) (m : Mark) (p : Position) (ms : List Mark) (ps : List Position) → Beyond (m .place) ms → Room a b m p
     → AllRoom (nextAbove g a m p) (nextBelow g b m p) ms ps → (apart g m p ms ps ≡ true) × AllRoom a b ms ps
 unfolding apart
 all-before g a b m p [] ps h r k = (refl, tt)
 all-before g a b m p (n ∷ ms) [] h r k = (refl, tt)
 all-before g a b m p (n ∷ ms) (q ∷ ps) h r k =
-    let rest = all-before g a b m p ms ps (h .1) r (k .1) in
-    (both (not (overlaps g m p n q)) (apart g m p ms ps) (not-false-true _ (clear g a b m n p q (k .0))) (rest .0), (narrower g a b m n p q (h .0) r (k .0), rest .1))
+    let rest = all-before g a b m p ms ps (h .1) r (k .1) in (
+      both (not (overlaps g m p n q)) (apart g m p ms ps) (not-false-true _ (clear g a b m n p q (k .0))) (rest .0),
+      (narrower g a b m n p q (h .0) r (k .0), rest .1),
+    )
 
+-- and the other way round: labels that fit before it and are apart from it fit after it
 all-after : (g a b : ℕ) (m : Mark) (p : Position) (ms : List Mark) (ps : List Position) → Beyond (m .place) ms
     → apart g m p ms ps ≡ true → AllRoom a b ms ps → AllRoom (nextAbove g a m p) (nextBelow g b m p) ms ps
 unfolding apart
@@ -91,6 +107,7 @@ all-after g a b m p (n ∷ ms) (q ∷ ps) h t k = (
   all-after g a b m p ms ps (h .1) (and-snd (not (overlaps g m p n q)) (apart g m p ms ps) t) (k .1),
 )
 
+-- a walk that goes through is free, and its labels all fit beside the reaches it began with
 pub go-free : (g a b : ℕ) (ms : List Mark) (ps : List Position) → Rising ms → Go g a b ms ps
     → (free g ms ps ≡ true) × AllRoom a b ms ps
 unfolding free
@@ -102,6 +119,7 @@ go-free g a b (m ∷ ms) (p ∷ ps) r h =
     let here = all-before g a b m p ms ps (rising-beyond m ms r) (h .0) (rest .1) in
     (both (apart g m p ms ps) (free g ms ps) (here .0) (rest .0), (h .0, here .1))
 
+-- and a free choice whose labels all fit beside them goes through
 pub free-go : (g a b : ℕ) (ms : List Mark) (ps : List Position) → Rising ms → free g ms ps ≡ true → AllRoom a b ms ps
     → Go g a b ms ps
 unfolding free
@@ -147,6 +165,7 @@ below-less g b b′ m unlabelled h = h
 below-less g b b′ m (at above d) h = h
 below-less g b b′ m (at below d) h = omega arith
 
+-- so a walk that goes through from two reaches goes through from smaller ones
 pub smaller-reaches-go : (g a b a′ b′ : ℕ) (ms : List Mark) (ps : List Position) → a′ ≤ a → b′ ≤ b → Go g a b ms ps → Go g a′ b′ ms ps
 smaller-reaches-go g a b a′ b′ [] [] h k r = tt
 smaller-reaches-go g a b a′ b′ [] (p ∷ ps) h k r = r

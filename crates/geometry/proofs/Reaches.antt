@@ -1,4 +1,6 @@
--- The two reaches of a part layout, by right ends, against those that the walk holds after it.
+-- The two reaches of a part layout, by right ends, are those that the walk holds after it, but for the gap: the walk holds the right end
+-- plus the gap for a side with labels, and what it began with for one without. By induction, since of the labels on a side the last ends
+-- furthest right. So a walk can be split after any mark, and smaller reaches by right ends are smaller ones for the walk.
 use mathlib.Core.Path.{_≡_, refl, _∙_, ap}
 use mathlib.Core.Bool.{Bool, cond}
 use mathlib.Core.Logic.{_⊎_, ⊎-elim}
@@ -37,6 +39,7 @@ go-split g a b (m ∷ ms) ns [] qs e h = absurd (omega arith)
 go-split g a b (m ∷ ms) ns (p ∷ ps) qs e h =
     let r = go-split g (nextAbove g a m p) (nextBelow g b m p) ms ns ps qs (omega arith) (h .1) in ((h .0, r .0), r .1)
 
+-- and the two together are one walk
 pub go-join : (g a b : ℕ) (ms ns : List Mark) (ps qs : List Position) → Go g a b ms ps
     → Go g (endAbove g a ms ps) (endBelow g b ms ps) ns qs → Go g a b (ms ++ ns) (ps ++ qs)
 unfolding endAbove endBelow
@@ -56,6 +59,7 @@ mirror-reach above (m ∷ ms) (at below d ∷ ps) = ap (max (rightEnd m d)) (mir
 mirror-reach below (m ∷ ms) (at above d ∷ ps) = ap (max (rightEnd m d)) (mirror-reach below ms ps)
 mirror-reach below (m ∷ ms) (at below d ∷ ps) = mirror-reach below ms ps
 
+-- and so are those that the walk holds
 mirror-end : (g b : ℕ) (ms : List Mark) (ps : List Position) → endBelow g b ms ps ≡ endAbove g b ms (map mirror ps)
 unfolding endAbove endBelow
 mirror-end g b [] ps = refl
@@ -77,6 +81,7 @@ reach-after g a b (m ∷ ms) (at below d ∷ ps) h k = reach-after g a (rightEnd
 abbrev pub effective : ℕ → ℕ → ℕ → ℕ
 effective g a r = cond (leb r 1) a (r + g)
 
+-- a label in front: its end counts where no later label lies above
 above-step : (g a b : ℕ) (m : Mark) (d : Direction) (ms : List Mark) (ps : List Position) (x : ℕ) → 1 < m .place
     → Go g (rightEnd m d + g) b ms ps → x ≡ effective g (rightEnd m d + g) (reach above ms ps)
     → x ≡ effective g a (max (rightEnd m d) (reach above ms ps))
@@ -84,10 +89,14 @@ above-step g a b m d ms ps x big h e =
     by-leb (max (rightEnd m d) (reach above ms ps)) 1 (λ t. x ≡ cond t a (max (rightEnd m d) (reach above ms ps) + g))
     (λ k. absurd (omega (arith, right-ge m d)))
     (λ k. ⊎-elim
-    (λ (l : 1 < reach above ms ps). e ∙ ap (λ (t : Bool). cond t (rightEnd m d + g) (reach above ms ps + g)) (borrow.Author.Tests.lt-leb _ _ l) ∙ omega (arith, reach-after g (rightEnd m d + g) b ms ps h l))
-    (λ (l : reach above ms ps ≤ 1). e ∙ ap (λ (t : Bool). cond t (rightEnd m d + g) (reach above ms ps + g)) (borrow.Author.Tests.le-leb _ _ l) ∙ omega (arith, right-ge m d))
+    (λ (l : 1 < reach above ms ps). e
+    ∙ ap (λ (t : Bool). cond t (rightEnd m d + g) (reach above ms ps + g)) (borrow.Author.Tests.lt-leb _ _ l)
+    ∙ omega (arith, reach-after g (rightEnd m d + g) b ms ps h l))
+    (λ (l : reach above ms ps ≤ 1).
+    e ∙ ap (λ (t : Bool). cond t (rightEnd m d + g) (reach above ms ps + g)) (borrow.Author.Tests.le-leb _ _ l) ∙ omega (arith, right-ge m d))
     (lt-or-ge 1 (reach above ms ps)))
 
+-- so the walk ends with the effective reaches of the part layout
 pub end-above : (g a b : ℕ) (ms : List Mark) (ps : List Position) → Beyond 1 ms → Go g a b ms ps
     → endAbove g a ms ps ≡ effective g a (reach above ms ps)
 unfolding endAbove reach

@@ -1,4 +1,5 @@
--- Overlap by dots is overlap by the signed ends: counting from −32,768 changes nothing.
+-- Overlap by dots is overlap by the signed ends: counting from −32,768 changes nothing. The ends of an accepted label lie inside 16 bits,
+-- so the dot of each end is the end counted from there, and each of the two tests of an overlap compares the same numbers, gap included.
 use mathlib.Core.Path.{_≡_, refl, sym, _∙_, ap, ap₂}
 use mathlib.Core.Bool.{Bool, true, _&&_}
 use Prim.Native.Nat.{ℕ, _+_, _≤_, _<_}
@@ -19,15 +20,17 @@ use Rattle.geometry.proofs.Dots.{not-low, add-not-low, dot-lt-high, dot
 lt-with-gap : (g : ℕ) (z w : ℤ) → mag z < 32768 → mag w < 32768 → ltZ z (w +ℤ pos g) ≡ ltb (dot z) (dot w + g)
 lt-with-gap g z w h k = dot-lt-high z (w +ℤ pos g) (not-low z h) (add-not-low w g k) ∙ ap (ltb (dot z)) (dot-add w g k)
 
+-- the mark at a signed place
+abbrev markOf : ℤ → ℕ → ℕ → Mark
+markOf z l w = record { place = dot z; labelLength = l; weight = w }
+
 -- the ends of an accepted label, as dots
 module _ (w : ℕ) (z : ℤ) (l : ℕ) (p : placeInRange z ≡ true) (q : lengthInRange l ≡ true) where
-  abbrev here : Mark
-  here = record { place = dot z; labelLength = l; weight = w }
-
+  -- each end has the model's end as its dot, and 16 bits hold it
   short : l ≤ 240
   short = leb-true l 240 (and-snd (leb 1 l) (leb l 240) q)
 
-  left-dot : (d : Direction) → dot (signedLeftEnd z l d) ≡ leftEnd here d
+  left-dot : (d : Direction) → dot (signedLeftEnd z l d) ≡ leftEnd (markOf z l w) d
   left-dot leftward = dot-sub z l (range-mag z p) (omega (arith, short, range-dots z p))
   left-dot rightward = refl
 
@@ -35,7 +38,7 @@ module _ (w : ℕ) (z : ℤ) (l : ℕ) (p : placeInRange z ≡ true) (q : length
   left-mag leftward = mag-sub z l (range-mag z p) (omega (arith, short, range-dots z p))
   left-mag rightward = range-mag z p
 
-  right-dot : (d : Direction) → dot (signedRightEnd z l d) ≡ rightEnd here d
+  right-dot : (d : Direction) → dot (signedRightEnd z l d) ≡ rightEnd (markOf z l w) d
   right-dot leftward = refl
   right-dot rightward = dot-add z l (range-mag z p)
 
@@ -46,11 +49,15 @@ module _ (w : ℕ) (z : ℤ) (l : ℕ) (p : placeInRange z ≡ true) (q : length
 -- The theorem, for marks that every pass accepts and any gap.
 pub overlap-by-signed-ends : (g v w : ℕ) (z y : ℤ) (l k : ℕ) (p q : Position)
     → placeInRange z ≡ true → lengthInRange l ≡ true → placeInRange y ≡ true → lengthInRange k ≡ true
-    → overlaps g (record { place = dot z; labelLength = l; weight = v }) p (record { place = dot y; labelLength = k; weight = w }) q ≡ signedOverlaps g z l p y k q
+    → overlaps g (markOf z l v) p (markOf y k w) q ≡ signedOverlaps g z l p y k q
 overlap-by-signed-ends g v w z y l k unlabelled q gz gl gy gk = refl
 overlap-by-signed-ends g v w z y l k (at s d) unlabelled gz gl gy gk = refl
 overlap-by-signed-ends g v w z y l k (at s d) (at t e) gz gl gy gk =
     ap (λ (b : Bool). sameSide s t && b)
     (ap₂ (λ (b c : Bool). b && c)
-    (sym (lt-with-gap g (signedLeftEnd z l d) (signedRightEnd y k e) (left-mag v z l gz gl d) (right-mag w y k gy gk e) ∙ ap₂ (λ i j. ltb i (j + g)) (left-dot v z l gz gl d) (right-dot w y k gy gk e)))
-    (sym (lt-with-gap g (signedLeftEnd y k e) (signedRightEnd z l d) (left-mag w y k gy gk e) (right-mag v z l gz gl d) ∙ ap₂ (λ i j. ltb i (j + g)) (left-dot w y k gy gk e) (right-dot v z l gz gl d))))
+    (sym
+    (lt-with-gap g (signedLeftEnd z l d) (signedRightEnd y k e) (left-mag v z l gz gl d) (right-mag w y k gy gk e)
+    ∙ ap₂ (λ i j. ltb i (j + g)) (left-dot v z l gz gl d) (right-dot w y k gy gk e)))
+    (sym
+    (lt-with-gap g (signedLeftEnd y k e) (signedRightEnd z l d) (left-mag w y k gy gk e) (right-mag v z l gz gl d)
+    ∙ ap₂ (λ i j. ltb i (j + g)) (left-dot w y k gy gk e) (right-dot v z l gz gl d))))

@@ -1,4 +1,6 @@
 -- A sliding placing at any denominator exists iff one with whole leftmost edges does: fractions of a dot never help.
+-- Labels on one side keep the order of their marks, so each begins at or beyond the end of the one before it. By induction n times the
+-- leftmost edges for the same sides are at most the edges of a placing at denominator n; so they lie where they may, too.
 use mathlib.Core.Path.{_≡_, refl, ap}
 use mathlib.Core.Bool.{true}
 use mathlib.Core.Logic.{inl, inr}
@@ -12,7 +14,8 @@ use lib.ListN.{length}
 use Rattle.geometry.specs.Dot.{emptyReach}
 use Rattle.geometry.specs.Mark.{Mark}
 use Rattle.geometry.specs.Position.{Side, above, below, ownReach, aboveAfter, belowAfter}
-use Rattle.geometry.specs.Sliding.{EdgeAllowed, EdgesApart, ApartOnSide, SlidingPlacing, Slides, leftmostEdge, edgesFrom, leftmostEdges, noneBeyond, slidesWhole}
+use Rattle.geometry.specs.Sliding.{EdgeAllowed, EdgesApart, ApartOnSide, SlidingPlacing, Slides, leftmostEdge, edgesFrom, leftmostEdges}
+use Rattle.geometry.specs.Sliding.{noneBeyond, slidesWhole}
 use Rattle.geometry.specs.inner.Rising.{Rising}
 use Rattle.geometry.proofs.Split.{both}
 use Rattle.geometry.proofs.Rising.{rising-rest, rising-first}
@@ -24,7 +27,8 @@ max-scaled n s t e h k =
     elim (decLe s t) [ yes u ↦ (let q : max s t ≡ t = omega arith in rw q k) | no u ↦ (let q : max s t ≡ s = omega arith in rw q h) ]
 
 -- the reach of side t after a label on side s that reaches to r
-pub after-side : (s t : Side) (r a b : ℕ) (P : ℕ → Type 0) → (s ≡ t → P r) → P (ownReach t a b) → P (ownReach t (aboveAfter s r a) (belowAfter s r b))
+pub after-side : (s t : Side) (r a b : ℕ) (P : ℕ → Type 0) → (s ≡ t → P r) → P (ownReach t a b)
+    → P (ownReach t (aboveAfter s r a) (belowAfter s r b))
 after-side above above r a b P f x = f refl
 after-side above below r a b P f x = x
 after-side below above r a b P f x = x
@@ -35,6 +39,7 @@ abbrev ShortBeyond : ℕ → List Mark → Type 0
 ShortBeyond p [] = Unit {0}
 ShortBeyond p (k ∷ ms) = (p < k .place) × (k .labelLength < k .place) × ShortBeyond p ms
 
+-- rising marks whose first lies beyond p all do
 rising-short : (p : ℕ) (m : Mark) (ms : List Mark) → p < m .place → Rising (m ∷ ms) → ShortBeyond p (m ∷ ms)
 rising-short p m [] h r = (h, r, tt)
 rising-short p m (k ∷ ms) h r = (h, r .0, rising-short p k ms (omega arith) (r .2))
@@ -45,13 +50,20 @@ later m [] r = tt
 later m (k ∷ ms) r = rising-short (m .place) k ms (r .1) (r .2)
 
 -- Labels on one side keep the order of their marks.
-in-order : (g n : ℕ) (m k : Mark) (e f : ℕ) → 1 ≤ n → m .place < k .place → k .labelLength < k .place → e ≤ n * m .place → EdgeAllowed n k f → EdgesApart g n m e k f
+in-order : (g n : ℕ) (m k : Mark) (e f : ℕ) → 1 ≤ n → m .place < k .place → k .labelLength < k .place → e ≤ n * m .place
+    → EdgeAllowed n k f → EdgesApart g n m e k f
     → e + n * (m .labelLength + g) ≤ f
 in-order g n m k e f pos rise short right allowed (inl h) = h
 in-order g n m k e f pos rise short right allowed (inr h) =
     absurd
-    (omega
-    (arith, allowed .not-left, mul-add n (k .place - k .labelLength) (k .labelLength + g), mul-le-mul-left {m = k .place} {n = k .place - k .labelLength + (k .labelLength + g)} n (omega arith), mul-lt-mul-of-pos-left {k = n} rise pos))
+    (omega (
+      arith,
+      allowed .not-left,
+      mul-add n (k .place - k .labelLength) (k .labelLength + g),
+      mul-le-mul-left {m = k .place}
+          {n = k .place - k .labelLength + (k .labelLength + g)} n (omega arith),
+      mul-lt-mul-of-pos-left {k = n} rise pos,
+    ))
 
 -- each edge, on its side, is at or beyond n times that side's reach
 abbrev PastReaches : ℕ → ℕ → ℕ → List Side → List ℕ → Type 0
@@ -60,7 +72,8 @@ PastReaches n a b (s ∷ ss) [] = Unit {0}
 PastReaches n a b (s ∷ ss) (e ∷ es) = (n * ownReach s a b ≤ e) × PastReaches n a b ss es
 
 -- and still is behind a label that reaches to r
-past-label : (g n : ℕ) (m : Mark) (s : Side) (e r a b : ℕ) (ms : List Mark) (ss : List Side) (es : List ℕ) → 1 ≤ n → e ≤ n * m .place → n * r ≤ e + n * (m .labelLength + g)
+past-label : (g n : ℕ) (m : Mark) (s : Side) (e r a b : ℕ) (ms : List Mark) (ss : List Side) (es : List ℕ) → 1 ≤ n → e ≤ n * m .place
+    → n * r ≤ e + n * (m .labelLength + g)
     → ShortBeyond (m .place) ms → PastReaches n a b ss es → ApartOnSide g n m s e ms ss es → SlidingPlacing g n ms ss es
     → PastReaches n (aboveAfter s r a) (belowAfter s r b) ss es
 past-label g n m s e r a b [] [] [] pos right reach rise past apart placed = tt
@@ -81,7 +94,9 @@ NotRightOf n [] es = Unit {0}
 NotRightOf n (x ∷ xs) [] = ⊥
 NotRightOf n (x ∷ xs) (e ∷ es) = (n * x ≤ e) × NotRightOf n xs es
 
-leftmost-from : (g n a b : ℕ) (ms : List Mark) (ss : List Side) (es : List ℕ) → 1 ≤ n → Rising ms → PastReaches n a b ss es → SlidingPlacing g n ms ss es
+-- from reaches that a placing keeps to, n times the leftmost edges are at most its edges
+leftmost-from : (g n a b : ℕ) (ms : List Mark) (ss : List Side) (es : List ℕ) → 1 ≤ n → Rising ms → PastReaches n a b ss es
+    → SlidingPlacing g n ms ss es
     → NotRightOf n (edgesFrom g a b ms ss) es
 unfolding edgesFrom
 leftmost-from g n a b [] [] [] pos rise past placed = tt
@@ -94,12 +109,14 @@ leftmost-from g n a b (m ∷ ms) (s ∷ ss) (e ∷ es) pos rise past placed =
     let first : n * x ≤ e = max-scaled n (ownReach s a b) (m .place - m .labelLength) e (past .0) (placed .0 .not-left) in (
       first,
       leftmost-from g n _ _ ms ss es pos (rising-rest m ms rise)
-          (past-label g n m s e (x + (m .labelLength + g)) a b ms ss es pos (placed .0 .not-right) (omega (arith, mul-add n x (m .labelLength + g))) (later m ms rise) (past .1) (placed .1) (placed .2))
+          (past-label g n m s e (x + (m .labelLength + g)) a b ms ss es pos (placed .0 .not-right) (omega (arith, mul-add n x (m .labelLength + g)))
+          (later m ms rise) (past .1) (placed .1) (placed .2))
           (placed .2),
     )
 
 -- at the start every allowed edge is beyond the empty reaches
-past-empty : (g n : ℕ) (ms : List Mark) (ss : List Side) (es : List ℕ) → Rising ms → SlidingPlacing g n ms ss es → PastReaches n emptyReach emptyReach ss es
+past-empty : (g n : ℕ) (ms : List Mark) (ss : List Side) (es : List ℕ) → Rising ms → SlidingPlacing g n ms ss es
+    → PastReaches n emptyReach emptyReach ss es
 past-empty g n [] [] [] rise placed = tt
 past-empty g n [] [] (f ∷ es) rise placed = absurd placed
 past-empty g n [] (t ∷ ss) es rise placed = absurd placed
@@ -117,7 +134,8 @@ pub leftmost-edges-least : (g n : ℕ) (ms : List Mark) (ss : List Side) (es : L
 leftmost-edges-least g n ms ss es pos rise placed = leftmost-from g n _ _ ms ss es pos rise (past-empty g n ms ss es rise placed) placed
 
 -- edges that are no further right than allowed edges are not beyond their marks
-within : (g n : ℕ) (ms : List Mark) (ss : List Side) (es xs : List ℕ) → 1 ≤ n → SlidingPlacing g n ms ss es → NotRightOf n xs es → noneBeyond ms xs ≡ true
+within : (g n : ℕ) (ms : List Mark) (ss : List Side) (es xs : List ℕ) → 1 ≤ n → SlidingPlacing g n ms ss es → NotRightOf n xs es
+    → noneBeyond ms xs ≡ true
 unfolding noneBeyond
 within g n [] ss es xs pos placed least = refl
 within g n (m ∷ ms) ss es [] pos placed least = refl
@@ -128,6 +146,7 @@ within g n (m ∷ ms) (s ∷ ss) (e ∷ es) (x ∷ xs) pos placed least =
     (le-leb x (m .place) (le-of-mul-le-mul-left {k = n} (omega (arith, placed .0 .not-right)) pos))
     (within g n ms ss es xs pos (placed .2) (least .1))
 
+-- a placing has a side for each mark
 pub placed-length : (g n : ℕ) (ms : List Mark) (ss : List Side) (es : List ℕ) → SlidingPlacing g n ms ss es → length ss ≡ length ms
 placed-length g n [] [] [] placed = refl
 placed-length g n [] [] (e ∷ es) placed = absurd placed
@@ -140,5 +159,7 @@ placed-length g n (m ∷ ms) (s ∷ ss) (e ∷ es) placed = ap suc (placed-lengt
 pub slides-whole : (g n : ℕ) (ms : List Mark) → 1 ≤ n → Rising ms → Slides g n ms → slidesWhole g ms ≡ true
 unfolding slidesWhole
 slides-whole g n ms pos rise w =
-    let found = any-sides (λ ss. noneBeyond ms (leftmostEdges g ms ss)) (w .sides) (within g n ms (w .sides) (w .edges) _ pos (w .placed) (leftmost-edges-least g n ms (w .sides) (w .edges) pos rise (w .placed))) in
+    let found =
+    any-sides (λ ss. noneBeyond ms (leftmostEdges g ms ss)) (w .sides)
+    (within g n ms (w .sides) (w .edges) _ pos (w .placed) (leftmost-edges-least g n ms (w .sides) (w .edges) pos rise (w .placed))) in
     rw (placed-length g n ms (w .sides) (w .edges) (w .placed)) at found

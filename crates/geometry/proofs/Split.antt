@@ -1,4 +1,5 @@
--- Case splits on the tests that definitions compute with.
+-- Case splits on the tests that definitions compute with. A goal about a test holds if it holds at each of its two answers, and each
+-- answer says what was tested: so a proof about a definition goes on with plain facts about numbers.
 use mathlib.Core.Path.{_≡_, refl}
 use mathlib.Core.Bool.{Bool, true, false, _&&_, _||_}
 use mathlib.Core.Logic.{_⊎_, inl, inr}
@@ -22,6 +23,7 @@ by-ltb a b P f g = by-bool (ltb a b) P (λ e. f (ltb-true a b e)) (λ e. g (ltb-
 pub by-eqb {ℓ} : (a b : ℕ) (P : Bool → Type ℓ) → (a ≡ b → P true) → ((a ≡ b → ⊥) → P false) → P (eqb a b)
 by-eqb a b P f g = by-bool (eqb a b) P (λ e. f (eqb-true a b e)) (λ e. g (eqb-false a b e))
 
+-- of two numbers the one is less, or the other is not more
 pub lt-or-ge : (a b : ℕ) → (a < b) ⊎ (b ≤ a)
 lt-or-ge a b = elim (decLe b a) [ yes h ↦ inr h | no h ↦ inl (omega arith) ]
 
@@ -38,6 +40,7 @@ pub and-snd : (s t : Bool) → (s && t) ≡ true → t ≡ true
 and-snd true t e = e
 and-snd false t e = absurd (mathlib.Core.Bool.false≢true e)
 
+-- a test does not have both answers
 pub clash {ℓ} : {X : Type ℓ} {t : Bool} → t ≡ true → t ≡ false → X
 clash {t = true} p q = absurd (mathlib.Core.Bool.true≢false q)
 clash {t = false} p q = absurd (mathlib.Core.Bool.false≢true p)

@@ -1,19 +1,31 @@
--- The first failure of a list of checks, when more checks follow.
+-- The number of a verdict tells acceptance from refusal, since no refusal has the number 0. The first failure of a list of checks followed
+-- by more checks is that of the first list if it has one, else that of the second. Checks 6 to 10 of a pass never give 11: each has
+-- its own number, and 11 is none of them.
 use mathlib.Core.Path.{_≡_, refl, _∙_, ap}
 use mathlib.Core.Bool.{Bool, true, false}
 use mathlib.Core.List.{List, [], _∷_, _++_}
+use Prim.Native.Nat.{ℕ}
 use native.Mathlib.Omega.{arith}
-use Rattle.geometry.specs.Refusal.{Refusal, bytesEnd, strayBit, absentValue, fieldOutOfRange, bytesLeftOver, listsUnequal, tooManyMarks, badMark, listTooShort, workTooShort, noPlacing, refusalNumber, Verdict, accepted, refused, numberOf, Check, afterCheck, firstFailure}
+use lib.Dec.{leb}
+use lib.ListN.{length}
+use Rattle.geometry.specs.Strip.{Strip}
+use Rattle.geometry.specs.Entry.{sameLengths, goodMarks}
+use Rattle.geometry.specs.Pass.{passVerdict}
+use Rattle.geometry.specs.Refusal.{Refusal, bytesEnd, strayBit, absentValue, outOfRange, bytesLeftOver, listsUnequal, tooManyMarks}
+use Rattle.geometry.specs.Refusal.{badMark, listTooShort, workTooShort, noPlacing, refusalNumber, Verdict, accepted, refused, numberOf, Check}
+use Rattle.geometry.specs.Refusal.{afterCheck, firstFailure}
 
 -- a refusal stands, whatever would follow
 abbrev pub then : Verdict → Verdict → Verdict
 then accepted w = w
 then (refused r) w = refused r
 
+-- a check before two verdicts is a check before the first of them
 after-then : (t : Bool) (r : Refusal) (v w : Verdict) → afterCheck t r (then v w) ≡ then (afterCheck t r v) w
 after-then true r v w = refl
 after-then false r v w = refl
 
+-- the first failure of two lists of checks
 pub failure-append : (cs ds : List Check) → firstFailure (cs ++ ds) ≡ then (firstFailure cs) (firstFailure ds)
 unfolding firstFailure
 failure-append [] ds = refl
@@ -21,11 +33,11 @@ failure-append (c ∷ cs) ds =
     ap (afterCheck (c .passes) (c .otherwise)) (failure-append cs ds) ∙ after-then (c .passes) (c .otherwise) (firstFailure cs) (firstFailure ds)
 
 -- no refusal has the number 0
-refusal-positive : (r : Refusal) → refusalNumber r ≡ 0 → ⊥
+pub refusal-positive : (r : Refusal) → refusalNumber r ≡ 0 → ⊥
 refusal-positive bytesEnd e = omega arith
 refusal-positive strayBit e = omega arith
 refusal-positive absentValue e = omega arith
-refusal-positive fieldOutOfRange e = omega arith
+refusal-positive outOfRange e = omega arith
 refusal-positive bytesLeftOver e = omega arith
 refusal-positive listsUnequal e = omega arith
 refusal-positive tooManyMarks e = omega arith
@@ -34,13 +46,32 @@ refusal-positive listTooShort e = omega arith
 refusal-positive workTooShort e = omega arith
 refusal-positive noPlacing e = omega arith
 
+-- so number 0 is acceptance
 pub zero-accepted : (v : Verdict) → numberOf v ≡ 0 → v ≡ accepted
 zero-accepted accepted e = refl
 zero-accepted (refused r) e = absurd (refusal-positive r e)
 
+-- the number of a refusal stands, and after acceptance the number is that of what follows
 pub number-stands : (v w : Verdict) → (numberOf v ≡ 0 → ⊥) → numberOf (then v w) ≡ numberOf v
 number-stands accepted w n = absurd (n refl)
 number-stands (refused r) w n = refl
 
 pub number-passes : (v w : Verdict) → numberOf v ≡ 0 → numberOf (then v w) ≡ numberOf w
 number-passes v w e = rw (zero-accepted v e) refl
+
+-- a check adds no 11 if its own refusal is another
+after-not-11 : (t : Bool) (r : Refusal) (v : Verdict) → (refusalNumber r ≡ refusalNumber noPlacing → ⊥)
+    → (numberOf v ≡ refusalNumber noPlacing → ⊥) → numberOf (afterCheck t r v) ≡ refusalNumber noPlacing → ⊥
+after-not-11 true r v this others = others
+after-not-11 false r v this others = this
+
+-- so no check of 6 to 10 of a pass gives 11
+pub pass-not-11 : (limit : ℕ) (s : Strip) (shortest named lent : ℕ)
+    → numberOf (passVerdict limit s shortest named lent) ≡ refusalNumber noPlacing → ⊥
+unfolding passVerdict firstFailure
+pass-not-11 limit s shortest named lent =
+    after-not-11 (sameLengths s) _ _ (λ e. omega arith)
+    (after-not-11 (leb (length (s .places)) limit) _ _ (λ e. omega arith)
+    (after-not-11 (goodMarks s) _ _ (λ e. omega arith)
+    (after-not-11 (leb (length (s .places)) shortest) _ _ (λ e. omega arith)
+    (after-not-11 (leb named lent) _ _ (λ e. omega arith) (λ e. omega arith)))))

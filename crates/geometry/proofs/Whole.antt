@@ -1,4 +1,6 @@
 -- Best and full agree: the best sum is the weight of all marks exactly if the strip has a placing.
+-- A placing labels every mark, so it earns the weight of all marks, and no choice earns more. Each weight is at least 1, so a choice that
+-- earns it all leaves no mark out: it is a placing.
 use mathlib.Core.Path.{_≡_, refl, sym, _∙_, ap}
 use mathlib.Core.Bool.{true}
 use mathlib.Core.List.{List, [], _∷_}
@@ -11,12 +13,14 @@ use lib.IntN.{ℤ}
 use lib.ListN.{length}
 use borrow.Author.Tests.{leb-true}
 use Rattle.geometry.specs.Lists.{every, sumList, wordsOf}
-use Rattle.geometry.specs.Mark.{Mark, marksOf, weightInRange}
+use Rattle.geometry.specs.Mark.{Mark, weightInRange, mostWeight}
+use Rattle.geometry.specs.Strip.{Strip, marksOfLists, marksOf}
 use Rattle.geometry.specs.Position.{Side, above, below, Direction, leftward, rightward, Position, unlabelled, at, ranked, labelled}
 use Rattle.geometry.specs.Overlap.{free, allLabelled}
 use Rattle.geometry.specs.Placing.{IsPlacing, firstPlacing, sumOf, bestSum}
-use Rattle.geometry.proofs.Split.{both, and-fst, and-snd, clash}
+use Rattle.geometry.proofs.Split.{both, and-fst, clash}
 use Rattle.geometry.proofs.Words.{Member, Spelled, word-listed, word-spelled, found-passes, one-found, never-none}
+use Rattle.geometry.proofs.Accepted.{first-good, rest-good}
 use Rattle.geometry.proofs.Best.{free-length, best-bounds, best-attained}
 
 -- "The weight of all marks is the sum of the weight list."
@@ -24,13 +28,18 @@ unfoldable pub weightsOf : List Mark → List ℕ
 weightsOf [] = []
 weightsOf (m ∷ ms) = m .weight ∷ weightsOf ms
 
-pub weights-of-marks : (zs : List ℤ) (ls ws : List ℕ) → length zs ≡ length ls → length zs ≡ length ws → weightsOf (marksOf zs ls ws) ≡ ws
-unfolding weightsOf marksOf
-weights-of-marks [] ls [] e f = refl
-weights-of-marks [] ls (w ∷ ws) e f = absurd (omega arith)
-weights-of-marks (z ∷ zs) [] ws e f = absurd (omega arith)
-weights-of-marks (z ∷ zs) (l ∷ ls) [] e f = absurd (omega arith)
-weights-of-marks (z ∷ zs) (l ∷ ls) (w ∷ ws) e f = ap (λ (ks : List ℕ). w ∷ ks) (weights-of-marks zs ls ws (omega arith) (omega arith))
+-- the weights of the marks are the weight list
+weights-of-lists : (zs : List ℤ) (ls ws : List ℕ) → length zs ≡ length ls → length zs ≡ length ws → weightsOf (marksOfLists zs ls ws) ≡ ws
+unfolding weightsOf marksOfLists
+weights-of-lists [] ls [] e f = refl
+weights-of-lists [] ls (w ∷ ws) e f = absurd (omega arith)
+weights-of-lists (z ∷ zs) [] ws e f = absurd (omega arith)
+weights-of-lists (z ∷ zs) (l ∷ ls) [] e f = absurd (omega arith)
+weights-of-lists (z ∷ zs) (l ∷ ls) (w ∷ ws) e f = ap (λ (ks : List ℕ). w ∷ ks) (weights-of-lists zs ls ws (omega arith) (omega arith))
+
+pub weights-of-marks : (s : Strip) → length (s .places) ≡ length (s .lengths) → length (s .places) ≡ length (s .weights)
+    → weightsOf (marksOf s) ≡ s .weights
+weights-of-marks s e f = weights-of-lists (s .places) (s .lengths) (s .weights) e f
 
 -- a choice earns at most that, and exactly that if every mark has its label
 pub sum-within : (ms : List Mark) (c : List Position) → sumOf ms c ≤ sumList (weightsOf ms)
@@ -82,23 +91,29 @@ spelled-labelled [] s = refl
 spelled-labelled (p ∷ c) s = both (labelled p) (allLabelled c) (ranked-labelled p (s .0)) (spelled-labelled c (s .1))
 
 -- an overlap-free choice that labels every mark is a placing, and `firstPlacing` finds one
-pub placing-found : (g : ℕ) (ms : List Mark) (c : List Position) → free g ms c ≡ true → allLabelled c ≡ true → (d : List Position) × (firstPlacing g ms ≡ some d)
+pub placing-found : (g : ℕ) (ms : List Mark) (c : List Position) → free g ms c ≡ true → allLabelled c ≡ true
+    → (d : List Position) × (firstPlacing g ms ≡ some d)
 unfolding firstPlacing
 placing-found g ms c f l =
     one-found (free g ms) (wordsOf ranked (length ms)) c (rw (sym (free-length g ms c f)) (word-listed ranked c (labelled-spelled c l))) f
 
+-- and what it finds is a placing
 pub found-placing : (g : ℕ) (ms : List Mark) (c : List Position) → firstPlacing g ms ≡ some c → IsPlacing g ms c
 unfolding firstPlacing
 found-placing g ms c e =
     let r = found-passes (free g ms) (wordsOf ranked (length ms)) c e in
     record { is-free = r .1; labels-all = spelled-labelled c (word-spelled ranked (length ms) c (r .0)) }
 
+-- the marks of three lists weigh what the weight list says
+heavy-lists : (zs : List ℤ) (ls ws : List ℕ) → every weightInRange ws ≡ true → (m : Mark) → Member m (marksOfLists zs ls ws) → 1 ≤ m .weight
+unfolding marksOfLists
+heavy-lists (z ∷ zs) (l ∷ ls) (w ∷ ws) e m (inl k) =
+    rw k (leb-true 1 w (and-fst (leb 1 w) (leb w mostWeight) (first-good weightInRange w ws e)))
+heavy-lists (z ∷ zs) (l ∷ ls) (w ∷ ws) e m (inr h) = heavy-lists zs ls ws (rest-good weightInRange w ws e) m h
+
 -- every weight of the list is in its range, so every mark weighs at least 1
-pub heavy-marks : (zs : List ℤ) (ls ws : List ℕ) → every weightInRange ws ≡ true → (m : Mark) → Member m (marksOf zs ls ws) → 1 ≤ m .weight
-unfolding every marksOf
-heavy-marks (z ∷ zs) (l ∷ ls) (w ∷ ws) e m (inl k) =
-    rw k (leb-true 1 w (and-fst (leb 1 w) (leb w 1000) (and-fst (weightInRange w) (every weightInRange ws) e)))
-heavy-marks (z ∷ zs) (l ∷ ls) (w ∷ ws) e m (inr h) = heavy-marks zs ls ws (and-snd (weightInRange w) (every weightInRange ws) e) m h
+pub heavy-marks : (s : Strip) → every weightInRange (s .weights) ≡ true → (m : Mark) → Member m (marksOf s) → 1 ≤ m .weight
+heavy-marks s e m h = heavy-lists (s .places) (s .lengths) (s .weights) e m h
 
 -- what `firstPlacing` says, without the placing
 not-none : {A : Type 0} (o : Option A) → (o ≡ none → ⊥) → (x : A) × (o ≡ some x)
@@ -123,9 +138,9 @@ module _ (g : ℕ) (ms : List Mark) where
       let r = placing-found g ms (b .choice) (b .is-free) l in
       never-none (r .0) (sym (r .1) ∙ n)
 
--- the same of the three lists of a strip: "the weight of all marks is the sum of the weight list"
-pub best-whole-iff-placing : (g : ℕ) (zs : List ℤ) (ls ws : List ℕ) → length zs ≡ length ls → length zs ≡ length ws → every weightInRange ws ≡ true
-    → (bestSum g (marksOf zs ls ws) ≡ sumList ws) ↔ (firstPlacing g (marksOf zs ls ws) ≡ none → ⊥)
-best-whole-iff-placing g zs ls ws e f h =
-    let w : sumList (weightsOf (marksOf zs ls ws)) ≡ sumList ws = ap sumList (weights-of-marks zs ls ws e f) in
-    (λ b. all-earned-places g (marksOf zs ls ws) (heavy-marks zs ls ws h) (b ∙ sym w), λ n. placing-earns-all g (marksOf zs ls ws) n ∙ w)
+-- the same of a strip: "the weight of all marks is the sum of the weight list"
+pub best-whole-iff-placing : (g : ℕ) (s : Strip) → length (s .places) ≡ length (s .lengths) → length (s .places) ≡ length (s .weights)
+    → every weightInRange (s .weights) ≡ true → (bestSum g (marksOf s) ≡ sumList (s .weights)) ↔ (firstPlacing g (marksOf s) ≡ none → ⊥)
+best-whole-iff-placing g s e f h =
+    let w : sumList (weightsOf (marksOf s)) ≡ sumList (s .weights) = ap sumList (weights-of-marks s e f) in
+    (λ b. all-earned-places g (marksOf s) (heavy-marks s h) (b ∙ sym w), λ n. placing-earns-all g (marksOf s) n ∙ w)

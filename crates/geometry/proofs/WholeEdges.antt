@@ -1,4 +1,6 @@
 -- Leftmost edges that are all allowed are a sliding placing at denominator 1, and a placing at 1 is one at every denominator.
+-- A leftmost label begins at its side's reach or beyond, and the reach is where the label before it ends; so two labels on one side are
+-- apart. Multiplying all edges by n keeps them allowed and apart. With the converse of Sliding, whole dots decide for every denominator.
 use mathlib.Core.Path.{_≡_, refl, ap}
 use mathlib.Core.Bool.{true, false}
 use mathlib.Core.Logic.{inl, inr, _↔_}
@@ -19,12 +21,13 @@ use Rattle.geometry.proofs.Sliding.{slides-whole}
 
 -- a side's reach never falls
 reach-grows : (s t : Side) (m : Mark) (g a b : ℕ)
-    → ownReach t a b ≤ ownReach t (aboveAfter s (leftmostEdge m (ownReach s a b) + (m .labelLength + g)) a) (belowAfter s (leftmostEdge m (ownReach s a b) + (m .labelLength + g)) b)
+    → let r = leftmostEdge m (ownReach s a b) + (m .labelLength + g) in ownReach t a b ≤ ownReach t (aboveAfter s r a) (belowAfter s r b)
 reach-grows above above m g a b = omega arith
 reach-grows above below m g a b = omega arith
 reach-grows below above m g a b = omega arith
 reach-grows below below m g a b = omega arith
 
+-- after a label the reach of its side is the label's
 pub own-after : (s : Side) (r a b : ℕ) → ownReach s (aboveAfter s r a) (belowAfter s r b) ≡ r
 own-after above r a b = refl
 own-after below r a b = refl
@@ -43,6 +46,7 @@ apart-behind g m s e a b (k ∷ ms) (t ∷ ss) h = (
     behind : s ≡ t → EdgesApart g 1 m e k (leftmostEdge k (ownReach t a b))
     behind same = inl (let own : ownReach s a b ≡ ownReach t a b = ap (λ (u : Side). ownReach u a b) same in omega arith)
 
+-- from any two reaches, leftmost edges of which none is beyond its mark are a placing
 placing-from : (g a b : ℕ) (ms : List Mark) (ss : List Side) → length ss ≡ length ms → noneBeyond ms (edgesFrom g a b ms ss) ≡ true
     → SlidingPlacing g 1 ms ss (edgesFrom g a b ms ss)
 unfolding edgesFrom noneBeyond
@@ -62,12 +66,14 @@ pub leftmost-placing : (g : ℕ) (ms : List Mark) (ss : List Side) → length ss
     → SlidingPlacing g 1 ms ss (leftmostEdges g ms ss)
 leftmost-placing g ms ss long e = placing-from g _ _ ms ss long e
 
+-- so a strip whose test at whole dots is passed has a placing
 pub whole-slides : (g : ℕ) (ms : List Mark) → slidesWhole g ms ≡ true → Slides g 1 ms
 unfolding slidesWhole
 whole-slides g ms e =
     let f : Found (λ ss. noneBeyond ms (leftmostEdges g ms ss)) (length ms) = sides-found (length ms) (λ ss. noneBeyond ms (leftmostEdges g ms ss)) e in
     record { sides = f .word; edges = leftmostEdges g ms (f .word); placed = leftmost-placing g ms (f .word) (f .long) (f .passes) }
 
+-- edges times n: apart, apart from all labels behind, and a placing
 scaled-apart : (g n : ℕ) (m k : Mark) (e f : ℕ) → EdgesApart g 1 m e k f → EdgesApart g n m (n * e) k (n * f)
 scaled-apart g n m k e f (inl h) = inl (omega (arith, mul-add n e (m .labelLength + g), mul-le-mul-left {m = e + (m .labelLength + g)} {n = f} n (omega arith)))
 scaled-apart g n m k e f (inr h) = inr (omega (arith, mul-add n f (k .labelLength + g), mul-le-mul-left {m = f + (k .labelLength + g)} {n = e} n (omega arith)))
@@ -79,7 +85,8 @@ scaled-side g n m s e (k ∷ ms) [] es h = tt
 scaled-side g n m s e (k ∷ ms) (t ∷ ss) [] h = tt
 scaled-side g n m s e (k ∷ ms) (t ∷ ss) (f ∷ es) h = (λ same. scaled-apart g n m k e f (h .0 same), scaled-side g n m s e ms ss es (h .1))
 
-pub scaled-placing : (g n : ℕ) (ms : List Mark) (ss : List Side) (es : List ℕ) → SlidingPlacing g 1 ms ss es → SlidingPlacing g n ms ss (map (λ x. n * x) es)
+pub scaled-placing : (g n : ℕ) (ms : List Mark) (ss : List Side) (es : List ℕ) → SlidingPlacing g 1 ms ss es
+    → SlidingPlacing g n ms ss (map (λ x. n * x) es)
 scaled-placing g n [] [] [] placed = tt
 scaled-placing g n [] [] (e ∷ es) placed = absurd placed
 scaled-placing g n [] (s ∷ ss) es placed = absurd placed

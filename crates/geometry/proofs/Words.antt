@@ -21,6 +21,7 @@ abbrev pub Spelled : {A : Type 0} → List A → List A → Type 0
 Spelled letters [] = Unit {0}
 Spelled letters (a ∷ w) = Member a letters × Spelled letters w
 
+-- an element of two lists together is one of the first or of the second
 member-left : {A : Type 0} (x : A) (xs ys : List A) → Member x xs → Member x (xs ++ ys)
 member-left x (y ∷ xs) ys (inl e) = inl e
 member-left x (y ∷ xs) ys (inr m) = inr (member-left x xs ys m)
@@ -29,25 +30,30 @@ member-right : {A : Type 0} (x : A) (xs ys : List A) → Member x ys → Member 
 member-right x [] ys m = m
 member-right x (y ∷ xs) ys m = inr (member-right x xs ys m)
 
-member-either : {A : Type 0} (x : A) (xs ys : List A) → Member x (xs ++ ys) → Member x xs ⊎ Member x ys
+pub member-either : {A : Type 0} (x : A) (xs ys : List A) → Member x (xs ++ ys) → Member x xs ⊎ Member x ys
 member-either x [] ys m = inr m
 member-either x (y ∷ xs) ys (inl e) = inl (inl e)
 member-either x (y ∷ xs) ys (inr m) = ⊎-elim (λ k. inl (inr k)) inr (member-either x xs ys m)
 
 module _ {A : Type 0} where
+  -- a letter in front of each word
   member-prefix : (a : A) (w : List A) (words : List (List A)) → Member w words → Member (a ∷ w) (map (λ v. a ∷ v) words)
   member-prefix a w (v ∷ words) (inl e) = inl (ap (λ (u : List A). a ∷ u) e)
   member-prefix a w (v ∷ words) (inr m) = inr (member-prefix a w words m)
 
   -- a word that begins with a
-  prefix-of : (a : A) (v : List A) (words : List (List A)) → Member v (map (λ u. a ∷ u) words) → (w : List A) × (v ≡ a ∷ w) × Member w words
+  pub prefix-of : (a : A) (v : List A) (words : List (List A)) → Member v (map (λ u. a ∷ u) words) → (w : List A) × (v ≡ a ∷ w) × Member w words
   prefix-of a v (u ∷ words) (inl e) = (u, e, inl refl)
   prefix-of a v (u ∷ words) (inr m) = let r = prefix-of a v words m in (r .0, r .1, inr (r .2))
 
-  member-prefixed : (a : A) (w : List A) (letters : List A) (words : List (List A)) → Member a letters → Member w words → Member (a ∷ w) (prefixed letters words)
+  -- each letter in front of each word
+  member-prefixed : (a : A) (w : List A) (letters : List A) (words : List (List A)) → Member a letters → Member w words
+      → Member (a ∷ w) (prefixed letters words)
   unfolding prefixed
-  member-prefixed a w (b ∷ letters) words (inl e) m = rw e (member-left (b ∷ w) (map (λ v. b ∷ v) words) (prefixed letters words) (member-prefix b w words m))
-  member-prefixed a w (b ∷ letters) words (inr k) m = member-right (a ∷ w) (map (λ v. b ∷ v) words) (prefixed letters words) (member-prefixed a w letters words k m)
+  member-prefixed a w (b ∷ letters) words (inl e) m =
+      rw e (member-left (b ∷ w) (map (λ v. b ∷ v) words) (prefixed letters words) (member-prefix b w words m))
+  member-prefixed a w (b ∷ letters) words (inr k) m =
+      member-right (a ∷ w) (map (λ v. b ∷ v) words) (prefixed letters words) (member-prefixed a w letters words k m)
 
   -- a letter and a word that a longer word is made of
   pub record Parts (letters : List A) (words : List (List A)) (v : List A) : Type 0 where
@@ -57,12 +63,14 @@ module _ {A : Type 0} where
     pub letter-in : Member letter letters
     pub rest-in : Member rest words
 
-  prefixed-parts : (v : List A) (letters : List A) (words : List (List A)) → Member v (prefixed letters words) → Parts letters words v
+  -- and every longer word is made of the two
+  pub prefixed-parts : (v : List A) (letters : List A) (words : List (List A)) → Member v (prefixed letters words) → Parts letters words v
   unfolding prefixed
   prefixed-parts v (b ∷ letters) words m =
       ⊎-elim
       (λ k. let r = prefix-of b v words k in record { letter = b; rest = r .0; is = r .1; letter-in = inl refl; rest-in = r .2 })
-      (λ k. let r = prefixed-parts v letters words k in record { letter = r .letter; rest = r .rest; is = r .is; letter-in = inr (r .letter-in); rest-in = r .rest-in })
+      (λ k. let r = prefixed-parts v letters words k in record
+      { letter = r .letter; rest = r .rest; is = r .is; letter-in = inr (r .letter-in); rest-in = r .rest-in })
       (member-either v (map (λ u. b ∷ u) words) (prefixed letters words) m)
 
   -- every list of n letters is among the words
@@ -71,12 +79,7 @@ module _ {A : Type 0} where
   word-listed letters [] s = inl refl
   word-listed letters (a ∷ w) s = member-prefixed a w letters _ (s .0) (word-listed letters w (s .1))
 
-  -- and every word has n entries, all of them letters
-  pub word-length : (letters : List A) (n : ℕ) (w : List A) → Member w (wordsOf letters n) → length w ≡ n
-  unfolding wordsOf
-  word-length letters zero w (inl e) = ap length e
-  word-length letters (suc n) w m = let r = prefixed-parts w letters _ m in ap length (r .is) ∙ ap suc (word-length letters n (r .rest) (r .rest-in))
-
+  -- and every word has letters only
   pub word-spelled : (letters : List A) (n : ℕ) (w : List A) → Member w (wordsOf letters n) → Spelled letters w
   unfolding wordsOf
   word-spelled letters zero w (inl e) = rw e tt
@@ -92,14 +95,10 @@ module _ {A : Type 0} (p : A → Bool) where
   -- `firstOf` gives nothing exactly if no element passes
   pub none-passes : (xs : List A) → firstOf p xs ≡ none → (x : A) → Member x xs → p x ≡ false
   unfolding firstOf
-  none-passes (y ∷ xs) e x (inl k) = rw k (by-bool (p y) (λ t. cond t (some y) (firstOf p xs) ≡ none → t ≡ false) (λ _ h. never-none y h) (λ _ h. refl) e)
+  none-passes (y ∷ xs) e x (inl k) =
+      rw k (by-bool (p y) (λ t. cond t (some y) (firstOf p xs) ≡ none → t ≡ false) (λ _ h. never-none y h) (λ _ h. refl) e)
   none-passes (y ∷ xs) e x (inr m) =
       by-bool (p y) (λ t. cond t (some y) (firstOf p xs) ≡ none → p x ≡ false) (λ _ h. never-none y h) (λ _ h. none-passes xs h x m) e
-
-  pub none-found : (xs : List A) → ((x : A) → Member x xs → p x ≡ false) → firstOf p xs ≡ none
-  unfolding firstOf
-  none-found [] f = refl
-  none-found (y ∷ xs) f = rw (f y (inl refl)) (none-found xs (λ x m. f x (inr m)))
 
   -- what it gives is an element that passes
   pub found-passes : (xs : List A) (x : A) → firstOf p xs ≡ some x → Member x xs × (p x ≡ true)
@@ -134,9 +133,11 @@ module _ {A : Type 0} (p : A → Bool) where
     pub passes : p element ≡ true
     pub worth : f element ≡ v
 
+  -- it stands in a longer list too
   attained-later : (f : A → ℕ) (xs : List A) (y : A) (v : ℕ) → Attained f xs v → Attained f (y ∷ xs) v
   attained-later f xs y v a = record { element = a .element; listed = inr (a .listed); passes = a .passes; worth = a .worth }
 
+  -- the greatest value is attained, or it is 0
   attained-or-zero : (f : A → ℕ) (xs : List A) → (greatestOf p f xs ≡ 0) ⊎ Attained f xs (greatestOf p f xs)
   unfolding greatestOf
   attained-or-zero f [] = inl refl

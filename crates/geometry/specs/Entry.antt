@@ -8,23 +8,30 @@ use lib.IntN.{ℤ}
 use lib.ListN.{length}
 use Rattle.geometry.specs.Lists.{every}
 use Rattle.geometry.specs.Mark.{placeInRange, lengthInRange, weightInRange, rising}
+use Rattle.geometry.specs.Strip.{Strip}
 use Rattle.geometry.specs.Refusal.{Check, Verdict, firstFailure, listsUnequal, tooManyMarks, badMark}
 
-abbrev pub sameLengths : List ℤ → List ℕ → List ℕ → Bool
-sameLengths zs ls ws = eqb (length zs) (length ls) && eqb (length zs) (length ws)
+abbrev pub sameLengths : Strip → Bool
+sameLengths s = eqb (length (s .places)) (length (s .lengths)) && eqb (length (s .places)) (length (s .weights))
 
--- every value is in its range and the places rise
-abbrev pub goodMarks : List ℤ → List ℕ → List ℕ → Bool
-goodMarks zs ls ws = every placeInRange zs && (rising zs && (every lengthInRange ls && every weightInRange ws))
+-- "a value out of range or places not rising"
+abbrev pub goodPlaces : List ℤ → Bool
+goodPlaces zs = every placeInRange zs && rising zs
+
+abbrev pub goodLabels : List ℕ → List ℕ → Bool
+goodLabels ls ws = every lengthInRange ls && every weightInRange ws
+
+abbrev pub goodMarks : Strip → Bool
+goodMarks s = goodPlaces (s .places) && goodLabels (s .lengths) (s .weights)
 
 -- the checks on entry of a call that takes at most limit marks, in their order
-abbrev pub entryChecks : ℕ → List ℤ → List ℕ → List ℕ → List Check
-entryChecks limit zs ls ws =
-    record { passes = sameLengths zs ls ws; otherwise = listsUnequal }
-    ∷ record { passes = leb (length zs) limit; otherwise = tooManyMarks }
-    ∷ record { passes = goodMarks zs ls ws; otherwise = badMark }
+abbrev pub entryChecks : ℕ → Strip → List Check
+entryChecks limit s =
+    record { passes = sameLengths s; otherwise = listsUnequal }
+    ∷ record { passes = leb (length (s .places)) limit; otherwise = tooManyMarks }
+    ∷ record { passes = goodMarks s; otherwise = badMark }
     ∷ []
 
 -- "A pass accepts it if the checks on entry are passed"
-unfoldable pub entry : ℕ → List ℤ → List ℕ → List ℕ → Verdict
-entry limit zs ls ws = firstFailure (entryChecks limit zs ls ws)
+unfoldable pub entry : ℕ → Strip → Verdict
+entry limit s = firstFailure (entryChecks limit s)

@@ -1,8 +1,9 @@
--- The model of document 01, in its order: words about lists, coordinates, marks, positions, overlap, placings, sliding, part layouts, refusals.
+-- The model of document 01, in its order: words about lists, coordinates, marks, strips, positions, overlap, placings, sliding, part layouts, refusals.
 -- What only inner contracts cite stands under inner.
 pub mod Lists
 pub mod Dot
 pub mod Mark
+pub mod Strip
 pub mod Position
 pub mod Overlap
 pub mod SignedEnds
@@ -12,5 +13,5 @@ pub mod Layout
 pub mod Refusal
 pub mod Entry
 pub mod Pass
-pub mod Strips
+pub mod Worked
 pub mod inner

@@ -6,7 +6,6 @@ use mathlib.Core.Bool.{Bool, true, _&&_}
 use lib.Dec.{leb}
 use lib.IntN.{ℤ, pos, negsuc}
 use lib.Signed.{leZ, ltZ}
-use Rattle.geometry.specs.Dot.{dot}
 
 -- a mark of the model: its place as a dot
 pub record Mark : Type 0 where
@@ -14,23 +13,29 @@ pub record Mark : Type 0 where
   pub labelLength : ℕ
   pub weight : ℕ
 
--- "A strip is its mark lists": the marks of three lists of one length
-unfoldable pub marksOf : List ℤ → List ℕ → List ℕ → List Mark
-marksOf [] ls ws = []
-marksOf (z ∷ zs) [] ws = []
-marksOf (z ∷ zs) (l ∷ ls) [] = []
-marksOf (z ∷ zs) (l ∷ ls) (w ∷ ws) = record { place = dot z; labelLength = l; weight = w } ∷ marksOf zs ls ws
+-- −30,000 and 30,000
+abbrev pub leastPlace : ℤ
+leastPlace = negsuc 29999
+
+abbrev pub mostPlace : ℤ
+mostPlace = pos 30000
+
+abbrev pub mostLength : ℕ
+mostLength = 240
+
+abbrev pub mostWeight : ℕ
+mostWeight = 1000
 
 abbrev pub placeInRange : ℤ → Bool
-placeInRange z = leZ (negsuc 29999) z && leZ z (pos 30000)
+placeInRange z = leZ leastPlace z && leZ z mostPlace
 
 abbrev pub lengthInRange : ℕ → Bool
-lengthInRange l = leb 1 l && leb l 240
+lengthInRange l = leb 1 l && leb l mostLength
 
 abbrev pub weightInRange : ℕ → Bool
-weightInRange w = leb 1 w && leb w 1000
+weightInRange w = leb 1 w && leb w mostWeight
 
--- each place is below the next
+-- the order of the places: each is below the next
 unfoldable pub rising : List ℤ → Bool
 rising [] = true
 rising (z ∷ []) = true

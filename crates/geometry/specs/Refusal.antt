@@ -7,7 +7,7 @@ pub data Refusal : Type 0 where
   bytesEnd : Refusal
   strayBit : Refusal
   absentValue : Refusal
-  fieldOutOfRange : Refusal
+  outOfRange : Refusal
   bytesLeftOver : Refusal
   listsUnequal : Refusal
   tooManyMarks : Refusal
@@ -20,7 +20,7 @@ abbrev pub refusalNumber : Refusal → ℕ
 refusalNumber bytesEnd = 1
 refusalNumber strayBit = 2
 refusalNumber absentValue = 3
-refusalNumber fieldOutOfRange = 4
+refusalNumber outOfRange = 4
 refusalNumber bytesLeftOver = 5
 refusalNumber listsUnequal = 6
 refusalNumber tooManyMarks = 7

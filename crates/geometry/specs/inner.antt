@@ -1,4 +1,5 @@
 -- Definitions that no public contract names.
 pub mod At
+pub mod Place
 pub mod Rising
 pub mod Machine

@@ -5,6 +5,9 @@ ghost use Prim.Native.Nat.{_+_, _-_};
 ghost use Rattle.geometry.specs.Dot.{dot};
 ghost use Rattle.geometry.specs.Mark.{placeInRange};
 
+// The reach of a side without labels, less than any place: its dot is `emptyReach`.
+pub const EMPTY_REACH: i16 = -32767;
+
 // The left end of a label to the left of its mark.
 pub fn left_end(place: i16, length: u8) -> i16
     requires { ⌜ placeInRange place ≡ true ⌝ }

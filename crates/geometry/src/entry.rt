@@ -1,38 +1,38 @@
 // The checks on entry: 6 mark lists of unequal length, then 7 too many marks, then 8 a value out of range or places not rising.
 ghost use mathlib.Core.Path.{_≡_};
-ghost use mathlib.Core.Bool.{_&&_};
+ghost use lib.Signed.{ltZ};
 ghost use Rattle.geometry.specs.Lists.{every};
 ghost use Rattle.geometry.specs.Mark.{placeInRange, lengthInRange, weightInRange, rising};
-ghost use Rattle.geometry.specs.Entry.{entry};
+ghost use Rattle.geometry.specs.Strip.{strip};
+ghost use Rattle.geometry.specs.Entry.{sameLengths, goodPlaces, goodLabels, goodMarks, entry};
 ghost use Rattle.geometry.specs.Pass.{passVerdict};
 ghost use Rattle.geometry.specs.Refusal.{numberOf};
-
-const LISTS_UNEQUAL: u8 = 6;
-
-const TOO_MANY_MARKS: u8 = 7;
-
-const BAD_MARK: u8 = 8;
-
-const LIST_TOO_SHORT: u8 = 9;
-
-const WORK_TOO_SHORT: u8 = 10;
+use crate::limits::LEAST_PLACE;
+use crate::limits::MOST_LENGTH;
+use crate::limits::MOST_PLACE;
+use crate::limits::MOST_WEIGHT;
+use crate::refusal::BAD_MARK;
+use crate::refusal::LIST_TOO_SHORT;
+use crate::refusal::LISTS_UNEQUAL;
+use crate::refusal::TOO_MANY_MARKS;
+use crate::refusal::WORK_TOO_SHORT;
 
 pub fn place_in_range(place: i16) -> bool
     ensures { λ r. ⌜ r ≡ placeInRange place ⌝ }
 {
-    -30000 <= place && place <= 30000
+    LEAST_PLACE <= place && place <= MOST_PLACE
 }
 
 pub fn length_in_range(length: u8) -> bool
     ensures { λ r. ⌜ r ≡ lengthInRange length ⌝ }
 {
-    1 <= length && length <= 240
+    1 <= length && length <= MOST_LENGTH
 }
 
 pub fn weight_in_range(weight: u16) -> bool
     ensures { λ r. ⌜ r ≡ weightInRange weight ⌝ }
 {
-    1 <= weight && weight <= 1000
+    1 <= weight && weight <= MOST_WEIGHT
 }
 
 fn places_in_range(places: &[i16]) -> bool
@@ -74,6 +74,13 @@ fn weights_in_range(weights: &[u16]) -> bool
     true
 }
 
+// Whether a mark at y may follow one at x.
+fn rises(x: i16, y: i16) -> bool
+    ensures { λ r. ⌜ r ≡ ltZ x y ⌝ }
+{
+    x < y
+}
+
 // Whether each place is below the next.
 fn places_rise(places: &[i16]) -> bool
     ensures { λ r. ⌜ r ≡ rising (now (places .entry)) ⌝ }
@@ -83,7 +90,7 @@ fn places_rise(places: &[i16]) -> bool
     }
     let mut i = 0;
     while i < places.len() - 1 {
-        if places[i + 1] <= places[i] {
+        if !rises(places[i], places[i + 1]) {
             return false;
         }
         i += 1;
@@ -91,30 +98,44 @@ fn places_rise(places: &[i16]) -> bool
     true
 }
 
-// The number of the first check on entry that the three lists do not pass, 0 if they pass all, for a call that takes at most
+fn same_lengths(places: &[i16], lengths: &[u8], weights: &[u16]) -> bool
+    ensures { λ r. ⌜ r ≡ sameLengths (strip (now (places .entry)) (now (lengths .entry)) (now (weights .entry))) ⌝ }
+{
+    places.len() == lengths.len() && places.len() == weights.len()
+}
+
+// Whether the places are in their range and rise.
+fn good_places(places: &[i16]) -> bool
+    ensures { λ r. ⌜ r ≡ goodPlaces (now (places .entry)) ⌝ }
+{
+    places_in_range(places) && places_rise(places)
+}
+
+// Whether lengths and weights are in their ranges.
+fn good_labels(lengths: &[u8], weights: &[u16]) -> bool
+    ensures { λ r. ⌜ r ≡ goodLabels (now (lengths .entry)) (now (weights .entry)) ⌝ }
+{
+    lengths_in_range(lengths) && weights_in_range(weights)
+}
+
+fn good_marks(places: &[i16], lengths: &[u8], weights: &[u16]) -> bool
+    ensures { λ r. ⌜ r ≡ goodMarks (strip (now (places .entry)) (now (lengths .entry)) (now (weights .entry))) ⌝ }
+{
+    good_places(places) && good_labels(lengths, weights)
+}
+
+// The number of the first check on entry that the strip does not pass, 0 if it passes all, for a call that takes at most
 // `limit` marks.
 pub fn check_marks(places: &[i16], lengths: &[u8], weights: &[u16], limit: usize) -> u8
-    ensures { λ r. ⌜ r ≡ numberOf (entry limit (now (places .entry)) (now (lengths .entry)) (now (weights .entry))) ⌝ }
+    ensures { λ r. ⌜ r ≡ numberOf (entry limit (strip (now (places .entry)) (now (lengths .entry)) (now (weights .entry)))) ⌝ }
 {
-    if places.len() != lengths.len() {
-        return LISTS_UNEQUAL;
-    }
-    if places.len() != weights.len() {
+    if !same_lengths(places, lengths, weights) {
         return LISTS_UNEQUAL;
     }
     if limit < places.len() {
         return TOO_MANY_MARKS;
     }
-    if !places_in_range(places) {
-        return BAD_MARK;
-    }
-    if !places_rise(places) {
-        return BAD_MARK;
-    }
-    if !lengths_in_range(lengths) {
-        return BAD_MARK;
-    }
-    if !weights_in_range(weights) {
+    if !good_marks(places, lengths, weights) {
         return BAD_MARK;
     }
     0
@@ -131,7 +152,9 @@ pub fn check_pass(
     named: usize,
     lent: usize,
 ) -> u8
-    ensures { λ r. ⌜ r ≡ numberOf (passVerdict limit (now (places .entry)) (now (lengths .entry)) (now (weights .entry)) shortest named lent) ⌝ }
+    ensures { λ r. ⌜ r ≡ numberOf (passVerdict limit
+        (strip (now (places .entry)) (now (lengths .entry)) (now (weights .entry)))
+        shortest named lent) ⌝ }
 {
     let entry = check_marks(places, lengths, weights, limit);
     if entry != 0 {

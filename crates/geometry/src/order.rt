@@ -1,6 +1,6 @@
-// Comparisons: of signed coordinates, said of their dots, and of lengths.
+// Comparisons of signed coordinates, said of their dots.
 ghost use mathlib.Core.Path.{_≡_};
-ghost use Prim.Native.Nat.{max, min};
+ghost use Prim.Native.Nat.{max};
 ghost use lib.Dec.{leb};
 ghost use Rattle.geometry.specs.Dot.{dot};
 
@@ -14,14 +14,4 @@ pub fn larger(x: i16, y: i16) -> i16
     ensures { λ r. ⌜ dot r ≡ max (dot x) (dot y) ⌝ }
 {
     if x <= y { y } else { x }
-}
-
-// The smaller of two lengths: check 9 asks for the shortest lent list.
-pub fn smaller(a: usize, b: usize) -> usize
-    ensures { λ r. ⌜ r ≡ min a b ⌝ }
-{
-    if a < b {
-        return a;
-    }
-    b
 }

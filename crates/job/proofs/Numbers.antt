@@ -1,4 +1,6 @@
--- Numbers of one and of two bytes.
+-- A number of one byte or of two, written and read back, is the same number; read and written back, it is the same bytes.
+-- The most significant byte comes first, so two bytes stand for 256 times the first plus the second, and division by 256 and its rest
+-- give them back.
 use mathlib.Core.Path.{_≡_, refl, ap}
 use mathlib.Core.List.{List, [], _∷_}
 use Prim.Native.Nat.{ℕ, zero, suc, _+_, _*_, _/_, _%_, _<_}
@@ -8,6 +10,7 @@ use lib.ListN.{length, take, drop, getD}
 use lib.Seq.{drop-cons}
 use Rattle.job.specs.Number.{bigEndian, bytesOf}
 
+-- what one byte and two bytes stand for
 pub one-byte : (b : ℕ) → bigEndian (b ∷ []) ≡ b
 unfolding bigEndian
 one-byte b = omega arith
@@ -26,7 +29,7 @@ number-of-two bs at h =
     let e : drop (suc at) bs ≡ getD bs (at + 1) 0 ∷ drop (suc (at + 1)) bs = rw (← add-one at) (drop-cons bs (at + 1) 0 h) in
     rw (drop-cons bs at 0 k, e) (two-bytes (getD bs at 0) (getD bs (at + 1) 0))
 
--- written and read back
+-- the bytes of a number
 pub bytes-one : (n : ℕ) → bytesOf 1 n ≡ n % 256 ∷ []
 unfolding bytesOf
 bytes-one n = ap (λ (k : ℕ). k ∷ []) (omega arith)
@@ -35,11 +38,13 @@ pub bytes-two : (n : ℕ) → bytesOf 2 n ≡ n / 256 % 256 ∷ n % 256 ∷ []
 unfolding bytesOf
 bytes-two n = ap (λ (k : ℕ). n / 256 % 256 ∷ k ∷ []) (omega arith)
 
+-- as many as the width
 pub bytes-length : (width n : ℕ) → length (bytesOf width n) ≡ width
 unfolding bytesOf
 bytes-length zero n = refl
 bytes-length (suc width) n = ap suc (bytes-length width n)
 
+-- written and read back
 pub back-one : (n : ℕ) → n < 256 → bigEndian (bytesOf 1 n) ≡ n
 back-one n h = rw (bytes-one n, one-byte (n % 256)) (omega arith)
 

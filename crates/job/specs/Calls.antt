@@ -1,13 +1,14 @@
 -- What the two job calls settle: the number, the count or the length, and each lent list at exit.
-use Prim.Native.Nat.{ℕ}
+use Prim.Native.Nat.{ℕ, min}
 use mathlib.Core.Path.{_≡_}
 use mathlib.Core.List.{List}
-use lib.IntN.{ℤ}
 use lib.ListN.{length}
+use Rattle.geometry.specs.Strip.{Strip}
 use Rattle.geometry.specs.Refusal.{numberOf}
 use Rattle.geometry.specs.Pass.{written}
 use Rattle.job.specs.Outcome.{Outcome, given, refusal, verdictOf}
-use Rattle.job.specs.Marks.{Marks}
+use Rattle.job.specs.Decode.{decode}
+use Rattle.job.specs.Encode.{jobFor}
 use Rattle.job.specs.declared.answer.Read.{Read}
 use Rattle.job.specs.declared.answer.Written.{Written}
 
@@ -21,16 +22,24 @@ abbrev pub leftAs : {M A : Type 0} → (M → List A) → Outcome M → List A �
 leftAs part (given m) old = written (part m) old
 leftAs part (refusal r) old = old
 
--- the reader: `found` is what the job says, and the lent lists hold places₀, lengths₀ and weights₀ at entry
-pub record ReadCall (found : Outcome Marks) (places₀ : List ℤ) (lengths₀ weights₀ : List ℕ) (r : Read) (places : List ℤ) (lengths weights : List ℕ) : Type 0 where
-  pub number-is : r .number ≡ numberOf (verdictOf found)
-  pub count-is : r .count ≡ usedOf (λ ms. ms .places) found
-  pub places-are : places ≡ leftAs (λ ms. ms .places) found places₀
-  pub lengths-are : lengths ≡ leftAs (λ ms. ms .lengths) found lengths₀
-  pub weights-are : weights ≡ leftAs (λ ms. ms .weights) found weights₀
+-- the length of the shortest of three lent lists
+abbrev pub shortest : Strip → ℕ
+shortest lent = min (length (lent .places)) (min (length (lent .lengths)) (length (lent .weights)))
 
--- the writer: `made` is the job of the marks, and the output holds job₀ at entry
-pub record WriteCall (made : Outcome (List ℕ)) (job₀ : List ℕ) (r : Written) (job : List ℕ) : Type 0 where
-  pub number-is : r .number ≡ numberOf (verdictOf made)
-  pub length-is : r .length ≡ usedOf (λ bs. bs) made
-  pub job-is : job ≡ leftAs (λ bs. bs) made job₀
+-- what a job says to a reader that is lent these lists
+abbrev pub readInto : Strip → List ℕ → Outcome Strip
+readInto lent job = decode (shortest lent) job
+
+-- the reader: the three lent lists at entry and at exit
+pub record ReadContract (job : List ℕ) (entry exit : Strip) (r : Read) : Type 0 where
+  pub number-is : r .number ≡ numberOf (verdictOf (readInto entry job))
+  pub count-is : r .count ≡ usedOf (λ s. s .places) (readInto entry job)
+  pub places-are : exit .places ≡ leftAs (λ s. s .places) (readInto entry job) (entry .places)
+  pub lengths-are : exit .lengths ≡ leftAs (λ s. s .lengths) (readInto entry job) (entry .lengths)
+  pub weights-are : exit .weights ≡ leftAs (λ s. s .weights) (readInto entry job) (entry .weights)
+
+-- the writer: the output at entry and at exit
+pub record WriteContract (s : Strip) (entry exit : List ℕ) (r : Written) : Type 0 where
+  pub number-is : r .number ≡ numberOf (verdictOf (jobFor (length entry) s))
+  pub length-is : r .length ≡ usedOf (λ job. job) (jobFor (length entry) s)
+  pub job-is : exit ≡ leftAs (λ job. job) (jobFor (length entry) s) entry

@@ -1,9 +1,8 @@
--- The job bytes of document 01, in its order: numbers, the format of a record, marks, reading, writing, the two calls.
+-- The job bytes of document 01, in its order: numbers, the format of a record, reading, writing, the two calls.
 -- What only inner contracts cite stands under inner.
 pub mod Number
 pub mod Outcome
 pub mod Format
-pub mod Marks
 pub mod Decode
 pub mod Encode
 pub mod Calls

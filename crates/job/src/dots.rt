@@ -1,44 +1,27 @@
-// Places as dots, counted from −32,768: sums of a place and a step, and differences of two places, are then unsigned.
+// Dots of places, and the words that stand for places in a job.
+use geometry::dot::ZERO_DOT;
 ghost use mathlib.Core.Path.{_≡_};
-ghost use Prim.Native.Nat.{_<_};
-ghost use Rattle.geometry.specs.Dot.{dot};
+ghost use Rattle.geometry.specs.inner.Place.{placeOf};
 ghost use Rattle.job.specs.Number.{signed, wordOf};
-ghost use Rattle.job.specs.inner.Place.{placeOf};
-
-// The dot of a place.
-pub fn dot_of(place: i16) -> u32
-    ensures { λ r. ⌜ r ≡ dot place ⌝ }
-{
-    (place as i32 + 32768) as u32
-}
-
-// The place of a dot.
-pub fn place_of(dot: u32) -> i16
-    requires { ⌜ dot < 65536 ⌝ }
-    ensures { λ r. ⌜ r ≡ placeOf dot ⌝ }
-{
-    (dot as i32 - 32768) as i16
-}
 
 // The dot of a place that is written as 16 bits, two's complement.
-pub fn dot_of_word(word: u16) -> u32
-    ensures { λ r. ⌜ (signed word ≡ placeOf r) × (r < 65536) ⌝ }
+pub fn dot_of_word(word: u16) -> u16
+    ensures { λ r. ⌜ placeOf r ≡ signed word ⌝ }
 {
-    if word < 32768 {
-        word as u32 + 32768
+    if word < ZERO_DOT {
+        word + ZERO_DOT
     } else {
-        word as u32 - 32768
+        word - ZERO_DOT
     }
 }
 
 // The 16 bits of a place that has this dot.
-pub fn word_of_dot(dot: u32) -> u32
-    requires { ⌜ dot < 65536 ⌝ }
+pub fn word_of_dot(dot: u16) -> u16
     ensures { λ r. ⌜ r ≡ wordOf (placeOf dot) ⌝ }
 {
-    if dot < 32768 {
-        dot + 32768
+    if dot < ZERO_DOT {
+        dot + ZERO_DOT
     } else {
-        dot - 32768
+        dot - ZERO_DOT
     }
 }

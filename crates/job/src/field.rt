@@ -3,22 +3,29 @@ ghost use mathlib.Core.Path.{_≡_};
 ghost use Prim.Native.Nat.{_+_, _≤_, _<_};
 ghost use lib.ListN.{length, take, drop};
 ghost use Rattle.job.specs.Number.{bigEndian};
+ghost use Rattle.job.specs.Format.{byteWidth, wordWidth};
 ghost use Rattle.job.specs.Decode.{fieldIf};
-ghost use Rattle.job.specs.inner.Step.{Says, row, FieldAt};
-
-pub const BYTES_END: u8 = 1;
-
-pub const STRAY_BIT: u8 = 2;
-
-pub const ABSENT_VALUE: u8 = 3;
-
-pub const OUT_OF_RANGE: u8 = 4;
+ghost use Rattle.job.specs.inner.Step.{Reports, row, FieldAt};
+use crate::format::BYTE_WIDTH;
+use geometry::refusal::ABSENT_VALUE;
+use geometry::refusal::BYTES_END;
+use geometry::refusal::OUT_OF_RANGE;
 
 // A field that was read: its value and the position after it, or the number of a refusal.
 pub struct FieldRead {
     pub number: u8,
     pub value: u16,
     pub next: usize,
+}
+
+fn no_field(number: u8) -> FieldRead
+    ensures { λ r. ⌜ r .number ≡ number ⌝ }
+{
+    FieldRead {
+        number,
+        value: 0,
+        next: 0,
+    }
 }
 
 fn wide(b: u8) -> u16
@@ -29,10 +36,10 @@ fn wide(b: u8) -> u16
 
 // The number that stands in `width` bytes, one or two.
 pub fn number_at(job: &[u8], at: usize, width: usize) -> u16
-    requires { ⌜ (1 ≤ width) × (width ≤ 2) × (at + width ≤ length (now job)) ⌝ }
+    requires { ⌜ (byteWidth ≤ width) × (width ≤ wordWidth) × (at + width ≤ length (now job)) ⌝ }
     ensures { λ r. ⌜ r ≡ bigEndian (take width (drop at (now (job .entry)))) ⌝ }
 {
-    if width == 1 {
+    if width == BYTE_WIDTH {
         return wide(job[at]);
     }
     let high = wide(job[at]);
@@ -50,8 +57,8 @@ pub fn read_field(
     absent: u16,
     most: u16,
 ) -> FieldRead
-    requires { ⌜ (1 ≤ width) × (width ≤ 2) × (at ≤ length (now job)) × (absent ≤ most) ⌝ }
-    ensures { λ r. ⌜ Says (r .number) (fieldIf stands (row width absent most) (drop at (now (job .entry)))) (FieldAt (now (job .entry)) most r) ⌝ }
+    requires { ⌜ (byteWidth ≤ width) × (width ≤ wordWidth) × (at ≤ length (now job)) × (absent ≤ most) ⌝ }
+    ensures { λ r. ⌜ Reports (r .number) (fieldIf stands (row width absent most) (drop at (now (job .entry)))) (FieldAt (now (job .entry)) most r) ⌝ }
 {
     if !stands {
         return FieldRead {
@@ -61,33 +68,17 @@ pub fn read_field(
         };
     }
     if job.len() - at < width {
-        return FieldRead {
-            number: BYTES_END,
-            value: 0,
-            next: at,
-        };
+        return no_field(BYTES_END);
     }
     let value = number_at(job, at, width);
     if value == absent {
-        return FieldRead {
-            number: ABSENT_VALUE,
-            value: 0,
-            next: at,
-        };
+        return no_field(ABSENT_VALUE);
     }
     if value < 1 {
-        return FieldRead {
-            number: OUT_OF_RANGE,
-            value: 0,
-            next: at,
-        };
+        return no_field(OUT_OF_RANGE);
     }
     if most < value {
-        return FieldRead {
-            number: OUT_OF_RANGE,
-            value: 0,
-            next: at,
-        };
+        return no_field(OUT_OF_RANGE);
     }
     FieldRead {
         number: 0,

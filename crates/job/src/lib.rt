@@ -2,6 +2,7 @@
 pub mod answer;
 mod dots;
 mod field;
+mod format;
 pub mod reader;
 mod record;
 pub mod writer;

@@ -1,87 +1,92 @@
 // The job reader: the whole job is checked before a lent list is filled, so that a refusal changes none.
 ghost use mathlib.Core.Path.{_≡_};
-ghost use mathlib.Core.Bool.{true, not, _&&_, _||_};
-ghost use Prim.Native.Nat.{_≤_, min};
-ghost use lib.Dec.{leb, eqb};
-ghost use lib.ListN.{length, drop};
-ghost use Rattle.geometry.specs.Mark.{placeInRange};
-ghost use Rattle.geometry.specs.Refusal.{accepted, numberOf};
+ghost use Prim.Native.Nat.{_≤_};
+ghost use lib.ListN.{length};
+ghost use Rattle.geometry.specs.Strip.{strip};
+ghost use Rattle.geometry.specs.Refusal.{numberOf};
+ghost use Rattle.geometry.specs.inner.Place.{placeOf, mostDot};
 ghost use Rattle.job.specs.Outcome.{verdictOf};
-ghost use Rattle.job.specs.Decode.{zeroPlace, decodeHeader, decodeRecords, decode};
-ghost use Rattle.job.specs.Calls.{ReadCall};
-ghost use Rattle.job.specs.inner.Place.{placeOf};
-ghost use Rattle.job.specs.inner.Step.{Says, HeaderAt, Filled};
+ghost use Rattle.job.specs.Format.{headerLength};
+ghost use Rattle.job.specs.Decode.{headerInRange, decodeHeader};
+ghost use Rattle.job.specs.Calls.{ReadContract};
+ghost use Rattle.job.specs.inner.Step.{Reports, HeaderAt, marksBehind, Fillable, Filled};
 use crate::answer::Read;
 use crate::dots::dot_of_word;
-use crate::dots::place_of;
-use crate::field::BYTES_END;
-use crate::field::OUT_OF_RANGE;
 use crate::field::number_at;
+use crate::format::HEADER_LENGTH;
+use crate::format::WORD_WIDTH;
 use crate::record::read_record;
-use geometry::order::smaller;
-
-const BYTES_LEFT_OVER: u8 = 5;
-
-const LIST_TOO_SHORT: u8 = 9;
+use geometry::dot::LEAST_DOT;
+use geometry::dot::MOST_DOT;
+use geometry::dot::ZERO_DOT;
+use geometry::dot::place_of;
+use geometry::limits::MOST_MARKS;
+use geometry::numbers::smaller;
+use geometry::refusal::BYTES_END;
+use geometry::refusal::BYTES_LEFT_OVER;
+use geometry::refusal::LIST_TOO_SHORT;
+use geometry::refusal::OUT_OF_RANGE;
 
 // A header that was read: the count of marks and the dot of the first place, or the number of a refusal.
 pub struct HeaderRead {
     pub number: u8,
     pub count: usize,
-    pub dot: u32,
+    pub dot: u16,
+}
+
+fn no_header(number: u8) -> HeaderRead
+    ensures { λ r. ⌜ r .number ≡ number ⌝ }
+{
+    HeaderRead {
+        number,
+        count: 0,
+        dot: 0,
+    }
 }
 
 // Whether the count is at most 4,000, the first place in its range, and 0 at count 0.
-fn header_in_range(count: u16, dot: u32) -> bool
-    ensures { λ r. ⌜ r ≡ (leb count 4000 && (placeInRange (placeOf dot) && (not (eqb count 0) || zeroPlace (placeOf dot)))) ⌝ }
+fn header_in_range(count: usize, dot: u16) -> bool
+    ensures { λ r. ⌜ r ≡ headerInRange count (placeOf dot) ⌝ }
 {
-    if 4000 < count {
+    if MOST_MARKS < count {
         return false;
     }
-    if dot < 2768 {
+    if dot < LEAST_DOT {
         return false;
     }
-    if 62768 < dot {
+    if MOST_DOT < dot {
         return false;
     }
     if count != 0 {
         return true;
     }
-    dot == 32768
+    dot == ZERO_DOT
 }
 
 fn read_header(job: &[u8]) -> HeaderRead
-    ensures { λ r. ⌜ Says (r .number) (decodeHeader (now (job .entry))) (HeaderAt (now (job .entry)) r) ⌝ }
+    ensures { λ r. ⌜ Reports (r .number) (decodeHeader (now (job .entry))) (HeaderAt (now (job .entry)) r) ⌝ }
 {
-    if job.len() < 4 {
-        return HeaderRead {
-            number: BYTES_END,
-            count: 0,
-            dot: 0,
-        };
+    if job.len() < HEADER_LENGTH {
+        return no_header(BYTES_END);
     }
-    let count = number_at(job, 0, 2);
-    let dot = dot_of_word(number_at(job, 2, 2));
+    let count = number_at(job, 0, WORD_WIDTH) as usize;
+    let dot = dot_of_word(number_at(job, WORD_WIDTH, WORD_WIDTH));
     if !header_in_range(count, dot) {
-        return HeaderRead {
-            number: OUT_OF_RANGE,
-            count: 0,
-            dot: 0,
-        };
+        return no_header(OUT_OF_RANGE);
     }
     HeaderRead {
         number: 0,
-        count: count as usize,
+        count,
         dot,
     }
 }
 
 // The number of the first check that the records do not pass, 0 if they pass all.
-fn check_records(job: &[u8], count: usize, first: u32) -> u8
-    requires { ⌜ (4 ≤ length (now job)) × (first ≤ 62768) ⌝ }
-    ensures { λ r. ⌜ r ≡ numberOf (verdictOf (decodeRecords count true (placeOf first) (drop 4 (now (job .entry))))) ⌝ }
+fn check_records(job: &[u8], count: usize, first: u16) -> u8
+    requires { ⌜ (headerLength ≤ length (now job)) × (first ≤ mostDot) ⌝ }
+    ensures { λ r. ⌜ r ≡ numberOf (verdictOf (marksBehind (now (job .entry)) count first)) ⌝ }
 {
-    let mut at: usize = 4;
+    let mut at = HEADER_LENGTH;
     let mut dot = first;
     let mut i: usize = 0;
     while i < count {
@@ -103,15 +108,18 @@ fn check_records(job: &[u8], count: usize, first: u32) -> u8
 fn fill(
     job: &[u8],
     count: usize,
-    first: u32,
+    first: u16,
     places: &mut [i16],
     lengths: &mut [u8],
     weights: &mut [u16],
 )
-    requires { ⌜ (4 ≤ length (now job)) × (first ≤ 62768) × (count ≤ length (now places)) × (count ≤ length (now lengths)) × (count ≤ length (now weights)) × (verdictOf (decodeRecords count true (placeOf first) (drop 4 (now job))) ≡ accepted) ⌝ }
-    ensures { λ _. ⌜ Filled (decodeRecords count true (placeOf first) (drop 4 (now (job .entry)))) (now (places .entry)) (now (lengths .entry)) (now (weights .entry)) (now (places .exit)) (now (lengths .exit)) (now (weights .exit)) ⌝ }
+    requires { ⌜ Fillable (now job) count first (strip (now places) (now lengths) (now weights)) ⌝ }
+    ensures { λ _. ⌜ Filled
+        (marksBehind (now (job .entry)) count first)
+        (strip (now (places .entry)) (now (lengths .entry)) (now (weights .entry)))
+        (strip (now (places .exit)) (now (lengths .exit)) (now (weights .exit))) ⌝ }
 {
-    let mut at: usize = 4;
+    let mut at = HEADER_LENGTH;
     let mut dot = first;
     let mut i: usize = 0;
     while i < count {
@@ -127,7 +135,10 @@ fn fill(
 
 // Reads a job into the three mark lists.
 pub fn read(job: &[u8], places: &mut [i16], lengths: &mut [u8], weights: &mut [u16]) -> Read
-    ensures { λ r. ⌜ ReadCall (decode (min (length (now (places .entry))) (min (length (now (lengths .entry))) (length (now (weights .entry))))) (now (job .entry))) (now (places .entry)) (now (lengths .entry)) (now (weights .entry)) r (now (places .exit)) (now (lengths .exit)) (now (weights .exit)) ⌝ }
+    ensures { λ r. ⌜ ReadContract
+        (now (job .entry))
+        (strip (now (places .entry)) (now (lengths .entry)) (now (weights .entry)))
+        (strip (now (places .exit)) (now (lengths .exit)) (now (weights .exit))) r ⌝ }
 {
     let header = read_header(job);
     if header.number != 0 {

@@ -1,7 +1,10 @@
 -- Laws that belong to no one function, in reading order.
 pub mod Append
 pub mod Decimal
-pub mod Passes
-pub mod BestPass
-pub mod Strips
-pub mod Jobs
+pub mod Spacing
+pub mod Sums
+pub mod PassAnswers
+pub mod StripText
+pub mod JobText
+pub mod LeftOutFew
+pub mod TextFits

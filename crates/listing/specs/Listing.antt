@@ -4,9 +4,8 @@ use mathlib.Core.Path.{_≡_}
 use mathlib.Core.Logic.{_↔_}
 use mathlib.Core.List.{List}
 use mathlib.Core.Bool.{Bool, true}
-use lib.Dec.{leb}
 use lib.ListN.{length}
-use Rattle.geometry.specs.Mark.{Mark, marksOf}
+use Rattle.geometry.specs.Strip.{Strip, marksOf, mostMarks, mostShort}
 use Rattle.geometry.specs.Position.{Position}
 use Rattle.geometry.specs.Overlap.{free}
 use Rattle.geometry.specs.Placing.{sumOf, bestSum}
@@ -14,37 +13,45 @@ use Rattle.geometry.specs.Sliding.{Slides}
 use Rattle.geometry.specs.Pass.{written}
 use Rattle.geometry.specs.Refusal.{refusalNumber, listTooShort}
 use Rattle.best.specs.LeftOut.{ListsLeftOut}
-use Rattle.job.specs.Outcome.{given}
-use Rattle.job.specs.Marks.{Marks}
+use Rattle.job.specs.Outcome.{Outcome, given}
 use Rattle.job.specs.Decode.{decode}
 use Rattle.listing.specs.Text.{listingOf}
 use Rattle.listing.specs.declared.answer.Listed.{Listed}
 
+-- what a job says, read with room for the most marks
+abbrev pub saidBy : List ℕ → Outcome Strip
+saidBy job = decode mostMarks job
+
 -- a sliding placing at some denominator
-pub record SlidesSomehow (ms : List Mark) : Type 0 where
+pub record SlidesSomehow (s : Strip) : Type 0 where
   pub denominator : ℕ
   pub whole : 1 ≤ denominator
-  pub placing : Slides 0 denominator ms
+  pub placing : Slides 0 denominator (marksOf s)
 
 -- what is open: an overlap-free choice of the greatest sum, and its left-out marks in some order
-pub record Chosen (ms : List Mark) (out : List ℕ) : Type 0 where
+pub record Chosen (s : Strip) (out : List ℕ) : Type 0 where
   pub choice : List Position
-  pub overlap-free : free 0 ms choice ≡ true
-  pub greatest : sumOf ms choice ≡ bestSum 0 ms
+  pub overlap-free : free 0 (marksOf s) choice ≡ true
+  pub greatest : sumOf (marksOf s) choice ≡ bestSum 0 (marksOf s)
   pub left-out : ListsLeftOut choice out
 
--- the text of a job, read with room for 4,000 marks
+-- the text of a job
 pub record TextOf (job : List ℕ) (text : List ℕ) : Type 0 where
   pub fits : Bool
   pub out : List ℕ
-  pub text-is : text ≡ listingOf (decode 4000 job) fits out
+  pub text-is : text ≡ listingOf (saidBy job) fits out
   -- "fits" exactly if the strip has a sliding placing, at whole dots or at any fraction
-  pub fits-exactly : (ms : Marks) → decode 4000 job ≡ given ms → (fits ≡ true) ↔ SlidesSomehow (marksOf (ms .places) (ms .lengths) (ms .weights))
-  pub out-chosen : (ms : Marks) → decode 4000 job ≡ given ms → leb (length (ms .places)) 60 ≡ true → Chosen (marksOf (ms .places) (ms .lengths) (ms .weights)) out
+  pub fits-exactly : (s : Strip) → saidBy job ≡ given s → (fits ≡ true) ↔ SlidesSomehow s
+  pub out-chosen : (s : Strip) → saidBy job ≡ given s → length (s .places) ≤ mostShort → Chosen s out
 
--- the output holds the text and is unchanged beyond it; an output that is too small is refused 9 and unchanged
-pub record ListingContract (job output : List ℕ) (r : Listed) (output′ : List ℕ) : Type 0 where
+-- No text is longer (`text-fits` in proofs/), so that an output of so many bytes is never too small.
+abbrev pub textMost : ℕ
+textMost = 25000
+
+-- The contract: the job, the output at entry and at exit, and what is handed back. The output holds the text and is unchanged beyond
+-- it; an output that is too small is refused 9 and unchanged.
+pub record ListingContract (job entry exit : List ℕ) (r : Listed) : Type 0 where
   pub text : List ℕ
   pub text-of : TextOf job text
-  pub where-room : length text ≤ length output → (r .number ≡ 0) × (r .length ≡ length text) × (output′ ≡ written text output)
-  pub where-short : (length text ≤ length output → ⊥) → (r .number ≡ refusalNumber listTooShort) × (r .length ≡ 0) × (output′ ≡ output)
+  pub where-room : length text ≤ length entry → (r .number ≡ 0) × (r .length ≡ length text) × (exit ≡ written text entry)
+  pub where-short : (length text ≤ length entry → ⊥) → (r .number ≡ refusalNumber listTooShort) × (r .length ≡ 0) × (exit ≡ entry)

@@ -6,12 +6,12 @@ use mathlib.Core.Bool.{Bool, cond}
 use lib.Dec.{leb}
 use lib.ListN.{length}
 use Rattle.geometry.specs.Lists.{sumList}
-use Rattle.geometry.specs.Mark.{Mark, marksOf}
+use Rattle.geometry.specs.Mark.{Mark}
+use Rattle.geometry.specs.Strip.{Strip, marksOf, mostShort}
 use Rattle.geometry.specs.Position.{Position, code}
 use Rattle.geometry.specs.Placing.{firstPlacing, bestSum}
-use Rattle.geometry.specs.Refusal.{Refusal, refusalNumber}
+use Rattle.geometry.specs.Refusal.{Refusal, refusalNumber, tooManyMarks}
 use Rattle.job.specs.Outcome.{Outcome, given, refusal}
-use Rattle.job.specs.Marks.{Marks}
 
 -- the fixed words, as bytes
 abbrev pub marksWord : List ℕ
@@ -91,17 +91,21 @@ abbrev pub refusedLine : Refusal → List ℕ
 refusedLine r = refusedWord ++ decimal (refusalNumber r) ++ lineEnd
 
 -- "Above 60 marks, slide and best read "refused 7" after the line's word, and there is no out line."
+abbrev pub tooLong : List ℕ
+tooLong = refusedLine tooManyMarks
+
 abbrev pub tooLongLines : List ℕ
-tooLongLines = slideWord ++ refusedWord ++ decimal 7 ++ lineEnd ++ bestWord ++ refusedWord ++ decimal 7 ++ lineEnd
+tooLongLines = slideWord ++ tooLong ++ bestWord ++ tooLong
 
 -- the lines below the full line of a strip of at most 60 marks; whether the slide pass fits and the left-out list are handed in
-abbrev pub shortLines : Marks → Bool → List ℕ → List ℕ
-shortLines ms fits out =
-    slideLine fits ++ bestLine (bestSum 0 (marksOf (ms .places) (ms .lengths) (ms .weights))) (sumList (ms .weights)) ++ outLine out
+abbrev pub shortLines : Strip → Bool → List ℕ → List ℕ
+shortLines s fits out = slideLine fits ++ bestLine (bestSum 0 (marksOf s)) (sumList (s .weights)) ++ outLine out
+
+-- the lines of a strip below its count
+abbrev pub stripLines : Strip → Bool → List ℕ → List ℕ
+stripLines s fits out = fullLine (marksOf s) ++ cond (leb (length (s .places)) mostShort) (shortLines s fits out) tooLongLines
 
 -- the listing of what a job says
-unfoldable pub listingOf : Outcome Marks → Bool → List ℕ → List ℕ
+unfoldable pub listingOf : Outcome Strip → Bool → List ℕ → List ℕ
 listingOf (refusal r) fits out = refusedLine r
-listingOf (given ms) fits out =
-    marksLine (length (ms .places)) ++ fullLine (marksOf (ms .places) (ms .lengths) (ms .weights))
-    ++ cond (leb (length (ms .places)) 60) (shortLines ms fits out) tooLongLines
+listingOf (given s) fits out = marksLine (length (s .places)) ++ stripLines s fits out

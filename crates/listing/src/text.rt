@@ -62,7 +62,8 @@ fn put_spaced(buffer: &mut [u8], at: usize, number: u32) -> usize
 // The first `count` positions, each after a space.
 pub fn put_positions(buffer: &mut [u8], at: usize, positions: &[u8], count: usize) -> usize
     requires { ⌜ (count ≤ length (now positions)) × (at + 6 * count ≤ length (now buffer)) ⌝ }
-    ensures { λ r. ⌜ Appended (now (buffer .entry)) at (spaced (take count (now (positions .entry)))) (now (buffer .exit)) r ⌝ ∗ ⌜ r ≤ at + 6 * count ⌝ }
+    ensures { λ r. ⌜ Appended (now (buffer .entry)) at (spaced (take count (now (positions .entry)))) (now (buffer .exit)) r ⌝
+        ∗ ⌜ r ≤ at + 6 * count ⌝ }
 {
     let mut next = at;
     let mut i = 0;
@@ -76,7 +77,8 @@ pub fn put_positions(buffer: &mut [u8], at: usize, positions: &[u8], count: usiz
 // The first `count` mark numbers, each after a space.
 pub fn put_marks(buffer: &mut [u8], at: usize, numbers: &[u16], count: usize) -> usize
     requires { ⌜ (count ≤ length (now numbers)) × (at + 6 * count ≤ length (now buffer)) ⌝ }
-    ensures { λ r. ⌜ Appended (now (buffer .entry)) at (spaced (take count (now (numbers .entry)))) (now (buffer .exit)) r ⌝ ∗ ⌜ r ≤ at + 6 * count ⌝ }
+    ensures { λ r. ⌜ Appended (now (buffer .entry)) at (spaced (take count (now (numbers .entry)))) (now (buffer .exit)) r ⌝
+        ∗ ⌜ r ≤ at + 6 * count ⌝ }
 {
     let mut next = at;
     let mut i = 0;

@@ -1,131 +1,150 @@
--- From what the table's definitions give to what the contract says.
+-- The slide pass meets its contract. A refusal by the checks is the number and changes nothing. Past them the answer is by the plain
+-- marks; weights change nothing, so it is 0 exactly if the strip slides at whole dots, and by geometry's theorem that is whether it slides
+-- at any denominator. The sides of the walk have leftmost edges that are all allowed, and such edges are a placing.
 use mathlib.Core.Path.{_≡_, refl, sym, _∙_, ap, ap₂}
 use mathlib.Core.Bool.{Bool, true, false}
-use mathlib.Core.Logic.{inl, inr}
+use mathlib.Core.Logic.{_↔_}
 use mathlib.Core.List.{List, [], _∷_, map}
-use Prim.Native.Nat.{ℕ, min, _≤_}
+use Prim.Native.Nat.{ℕ, min, _≤_, _<_}
 use native.Mathlib.Omega.{arith}
-use lib.IntN.{ℤ}
 use lib.ListN.{length}
-use Rattle.geometry.specs.Dot.{dot}
-use Rattle.geometry.specs.Mark.{Mark, marksOf}
+use Rattle.geometry.specs.Dot.{dot, emptyReach}
+use Rattle.geometry.specs.Mark.{Mark}
+use Rattle.geometry.specs.Strip.{Strip, marksOf, mostShort}
 use Rattle.geometry.specs.Position.{Side}
-use Rattle.geometry.specs.Sliding.{SlidingPlacing, leftmostEdges, noneBeyond, slidesWhole}
-use Rattle.geometry.specs.Refusal.{accepted, numberOf}
+use Rattle.geometry.specs.Sliding.{leftmostEdges, noneBeyond, slidesWhole}
+use Rattle.geometry.specs.Refusal.{Verdict, accepted, refused, numberOf, refusalNumber, noPlacing}
+use Rattle.geometry.specs.inner.Place.{placeOf}
+use Rattle.geometry.specs.inner.Rising.{Rising}
+use Rattle.geometry.specs.Pass.{workAfter}
 use Rattle.geometry.proofs.Accepted.{Accepted, pass-accepted, accepted-rising, length-marks}
-use Rattle.geometry.proofs.AnyWord.{Found, sides-found}
-use Rattle.geometry.proofs.Sliding.{slides-whole}
-use Rattle.geometry.proofs.Split.{clash}
+use Rattle.geometry.proofs.Places.{dot-of-place}
+use Rattle.geometry.proofs.Split.{by-bool}
 use Rattle.geometry.proofs.Verdicts.{zero-accepted}
-use Rattle.geometry.proofs.WholeEdges.{leftmost-placing}
-use Rattle.slide.specs.SlidePass.{Lent, verdictOf, NoPlacing, Answered, SlidePass}
+use Rattle.geometry.proofs.WholeEdges.{leftmost-placing, whole-slides, none-slides}
+use Rattle.slide.specs.Slide.{SlideLent, slideChecks, slideVerdict, workNamed, NoPlacing, Placed, SlideContract}
 use Rattle.slide.specs.inner.Answer.{AnswerReady, Answer}
-use Rattle.slide.specs.inner.Plain.{plainMarks, atDot}
-use Rattle.slide.specs.inner.Room.{slideable}
-use Rattle.slide.specs.inner.Walk.{walkSides}
-use Rattle.slide.proofs.Slideable.{sides-slideable}
-use Rattle.slide.proofs.Walking.{walk-allowed, walk-length}
-use Rattle.slide.proofs.Plain.{dot-at, plain-inside, plain-length, unweighted, plain-marks, edges-plain, beyond-plain}
+use Rattle.slide.specs.inner.Plain.{plainMarks, Checked}
+use Rattle.slide.specs.inner.Walk.{fitsPlain, walkSides}
+use Rattle.slide.proofs.WalkAllowed.{walk-allowed, walk-length}
+use Rattle.slide.proofs.PlainMarks.{marks-inside, marks-length}
+use Rattle.slide.proofs.WeightsIdle.{plain-edges, plain-beyond, plain-fits}
 
--- whole leftmost edges that are allowed, for some sides
-whole-found : (ms : List Mark) → slidesWhole 0 ms ≡ true → Found (λ ss. noneBeyond ms (leftmostEdges 0 ms ss)) (length ms)
-unfolding slidesWhole
-whole-found ms e = sides-found (length ms) (λ ss. noneBeyond ms (leftmostEdges 0 ms ss)) e
+-- a refusal by the checks stands
+refusal-stands : (v : Verdict) (slides : Bool) → (numberOf v ≡ 0 → ⊥) → numberOf (slideVerdict v slides) ≡ numberOf v
+refusal-stands accepted slides positive = absurd (positive refl)
+refusal-stands (refused r) slides positive = refl
 
-dots-back : (es : List ℕ) → map dot (map atDot es) ≡ es
+work-stands : (v : Verdict) (work : List ℕ) → (numberOf v ≡ 0 → ⊥) → workAfter workNamed 0 v work ≡ work
+work-stands accepted work positive = absurd (positive refl)
+work-stands (refused r) work positive = refl
+
+-- what the number past the checks says
+zero-slides : (t : Bool) (n : ℕ) → n ≡ numberOf (slideVerdict accepted t) → n ≡ 0 → t ≡ true
+zero-slides true n e z = refl
+zero-slides false n e z = absurd (omega arith)
+
+eleven-misses : (t : Bool) (n : ℕ) → n ≡ numberOf (slideVerdict accepted t) → (n ≡ refusalNumber noPlacing) ↔ (t ≡ false)
+eleven-misses true n e = (λ eleven. absurd (omega arith), λ no. absurd (mathlib.Core.Bool.true≢false no))
+eleven-misses false n e = (λ _. refl, λ _. e)
+
+-- without a placing at any denominator there is none at whole dots
+not-whole : (ms : List Mark) → NoPlacing ms → slidesWhole 0 ms ≡ false
+not-whole ms none =
+    by-bool (slidesWhole 0 ms) (λ t. slidesWhole 0 ms ≡ t → slidesWhole 0 ms ≡ false)
+    (λ _ e. absurd (none 1 (omega arith) (whole-slides 0 ms e))) (λ _ e. e) refl
+
+-- edges go out as places and come back as dots
+dots-back : (es : List ℕ) → map dot (map placeOf es) ≡ es
 dots-back [] = refl
-dots-back (e ∷ es) = ap₂ _∷_ (dot-at e) (dots-back es)
+dots-back (e ∷ es) = ap₂ _∷_ (dot-of-place e) (dots-back es)
 
--- checks 6 to 10, passed, are what the answer asks
-module _ (zs : List ℤ) (ls ws : List ℕ) (before : Lent) where
-  passed : verdictOf zs ls ws before ≡ accepted
-      → Accepted 60 zs ls ws × (length zs ≤ min (length (before .sides)) (length (before .edges))) × (30000 ≤ length (before .work))
-  passed e = pass-accepted 60 zs ls ws (min (length (before .sides)) (length (before .edges))) 30000 (length (before .work)) e
+module _ (s : Strip) (entry : SlideLent) where
+  -- checks 6 to 10, passed
+  passed : slideChecks s entry ≡ accepted
+      → Accepted mostShort s × (length (s .places) ≤ min (length (entry .sides)) (length (entry .edges))) × (workNamed ≤ length (entry .work))
+  passed e = pass-accepted mostShort s (min (length (entry .sides)) (length (entry .edges))) workNamed (length (entry .work)) e
 
-  pub answer-ready : (n : ℕ) → n ≡ numberOf (verdictOf zs ls ws before) → n ≡ 0 → AnswerReady zs ls before
-  answer-ready n e z =
-      let p = passed (zero-accepted (verdictOf zs ls ws before) (sym e ∙ z)) in
-      record {
-        checked = record { same-count = sym (p .0 .same-lengths); few = p .0 .few; places-good = p .0 .places-good; lengths-good = p .0 .lengths-good };
-        sides-long = omega (arith, p .1);
-        edges-long = omega (arith, p .1);
-        work-long = p .2;
-      }
+  -- what the inner functions ask of the lists
+  checked : Accepted mostShort s → Checked (s .places) (s .lengths)
+  checked good =
+      record { same-count = sym (good .same-lengths); few = good .few; places-good = good .places-good; lengths-good = good .lengths-good }
 
-  -- a refusal by the checks
-  pub refused-right : (n : ℕ) → n ≡ numberOf (verdictOf zs ls ws before) → (n ≡ 0 → ⊥) → SlidePass zs ls ws before before n
-  refused-right n e positive =
-      record {
-        where-refused = λ _. record { number-is = e; sides-unchanged = refl; edges-unchanged = refl; work-unchanged = refl };
-        where-accepted = λ a. absurd (positive (e ∙ ap numberOf a));
-      }
+  module _ (n : ℕ) (n-is : n ≡ numberOf (slideChecks s entry)) where
+    -- they are what the answer asks
+    pub answer-ready : n ≡ 0 → AnswerReady (s .places) (s .lengths) entry
+    answer-ready z =
+        let p = passed (zero-accepted (slideChecks s entry) (sym n-is ∙ z)) in
+        record { checked = checked (p .0); sides-long = omega (arith, p .1); edges-long = omega (arith, p .1); work-long = p .2 }
 
-  module _ (after : Lent) (n : ℕ) (answer : Answer zs ls before after n) (good : Accepted 60 zs ls ws) where
-    plain : map unweighted (marksOf zs ls ws) ≡ plainMarks zs ls
-    plain = plain-marks zs ls ws (sym (good .same-lengths)) (sym (good .same-weights))
-
-    same-edges : (us : List Side) → leftmostEdges 0 (plainMarks zs ls) us ≡ leftmostEdges 0 (marksOf zs ls ws) us
-    same-edges us = rw (← plain) (edges-plain 0 1 1 (marksOf zs ls ws) us)
-
-    same-beyond : (us : List Side) → noneBeyond (plainMarks zs ls) (leftmostEdges 0 (plainMarks zs ls) us) ≡ noneBeyond (marksOf zs ls ws) (leftmostEdges 0 (marksOf zs ls ws) us)
-    same-beyond us = rw (same-edges us, ← plain) (beyond-plain (marksOf zs ls ws) (leftmostEdges 0 (marksOf zs ls ws) us))
-
-    one-side-each : length (walkSides zs ls) ≡ length (marksOf zs ls ws)
-    one-side-each =
-        walk-length 0 1 1 (plainMarks zs ls)
-        ∙ plain-length zs ls (sym (good .same-lengths))
-        ∙ sym (length-marks zs ls ws (good .same-lengths) (good .same-weights))
-
-    -- sides whose leftmost edges are allowed are a placing, and there is one of them if there is any placing
-    placing-found : slideable 0 1 1 (plainMarks zs ls) ≡ true → SlidingPlacing 0 1 (marksOf zs ls ws) (walkSides zs ls) (leftmostEdges 0 (marksOf zs ls ws) (walkSides zs ls))
-    placing-found e =
-        leftmost-placing 0 (marksOf zs ls ws) (walkSides zs ls) one-side-each
-        (sym (same-beyond (walkSides zs ls)) ∙ walk-allowed 0 1 1 (plainMarks zs ls) (plain-inside zs ls (good .places-good) (good .lengths-good)) (omega arith) (omega arith) e)
-
-    none-there : slideable 0 1 1 (plainMarks zs ls) ≡ false → NoPlacing (marksOf zs ls ws)
-    none-there e n positive slides =
-        let f = whole-found (marksOf zs ls ws) (slides-whole 0 n (marksOf zs ls ws) positive (accepted-rising 60 zs ls ws good) slides) in
-        let long : length (f .word) ≡ length (plainMarks zs ls) =
-        f .long ∙ length-marks zs ls ws (good .same-lengths) (good .same-weights) ∙ sym (plain-length zs ls (sym (good .same-lengths))) in
-        clash (sides-slideable 0 1 1 (plainMarks zs ls) (f .word) long (same-beyond (f .word) ∙ f .passes)) e
-
-    answered : (t : Bool) → slideable 0 1 1 (plainMarks zs ls) ≡ t → Answered (marksOf zs ls ws) before after n
-    answered true e =
-        let zero-number : n ≡ 0 = answer .some-number e in
-        let walked = answer .some-walked e in
+    -- a refusal by the checks
+    pub refused-right : 0 < n → SlideContract s entry entry n
+    refused-right positive =
+        let stands : numberOf (slideChecks s entry) ≡ 0 → ⊥ = λ z. omega (arith, n-is ∙ z) in
         record {
-          answer = inl zero-number;
-          none-exactly = (
-            λ eleven. absurd (omega arith),
-            λ none. absurd (none 1 (omega arith) (record { sides = walkSides zs ls; edges = leftmostEdges 0 (marksOf zs ls ws) (walkSides zs ls); placed = placing-found e })),
-          );
-          where-placed = λ _. record {
-            sides = walkSides zs ls;
-            one-for-each = one-side-each;
-            placing = placing-found e;
-            sides-written = walked .sides;
-            edges = map atDot (leftmostEdges 0 (plainMarks zs ls) (walkSides zs ls));
-            leftmost = dots-back (leftmostEdges 0 (plainMarks zs ls) (walkSides zs ls)) ∙ same-edges (walkSides zs ls);
-            edges-written = walked .edges;
-          };
-          where-none = λ eleven. absurd (omega arith);
-          work-cleared = answer .work-cleared;
-        }
-    answered false e =
-        let eleven-number : n ≡ 11 = answer .none-number e in
-        record {
-          answer = inr eleven-number;
-          none-exactly = (λ _. none-there e, λ _. eleven-number);
-          where-placed = λ zero-number. absurd (omega arith);
-          where-none = λ _. record { sides-unchanged = answer .none-sides e; edges-unchanged = answer .none-edges e };
-          work-cleared = answer .work-cleared;
+          number-is = n-is ∙ sym (refusal-stands (slideChecks s entry) (slidesWhole 0 (marksOf s)) stands);
+          none-exactly = λ a. absurd (stands (ap numberOf a));
+          where-placed = λ z. absurd (omega arith);
+          where-refused = λ _. record { sides-unchanged = refl; edges-unchanged = refl };
+          work-is = sym (work-stands (slideChecks s entry) (entry .work) stands);
         }
 
   -- an answer past the checks
-  pub answered-right : (after : Lent) (k n : ℕ) → k ≡ numberOf (verdictOf zs ls ws before) → k ≡ 0 → Answer zs ls before after n → SlidePass zs ls ws before after n
-  answered-right after k n e z answer =
-      let a = zero-accepted (verdictOf zs ls ws before) (sym e ∙ z) in
-      record {
-        where-refused = λ not-accepted. absurd (not-accepted a);
-        where-accepted = λ _. answered after n answer (passed a .0) (slideable 0 1 1 (plainMarks zs ls)) refl;
-      }
+  module _ (past : slideChecks s entry ≡ accepted) (exit : SlideLent) (n : ℕ) (answer : Answer (s .places) (s .lengths) entry exit n) where
+    -- the strip is accepted, so its marks rise
+    good : Accepted mostShort s
+    good = passed past .0
+
+    rise : Rising (marksOf s)
+    rise = accepted-rising mostShort s good
+
+    -- the sides of the walk
+    abbrev sides : List Side
+    sides = walkSides (s .places) (s .lengths)
+
+    -- weights change neither their edges nor the number
+    same-edges : leftmostEdges 0 (plainMarks (s .places) (s .lengths)) sides ≡ leftmostEdges 0 (marksOf s) sides
+    same-edges = plain-edges s (good .same-lengths) (good .same-weights) sides
+
+    number-is : n ≡ numberOf (slideVerdict accepted (slidesWhole 0 (marksOf s)))
+    number-is = rw (← plain-fits s (good .same-lengths) (good .same-weights)) (answer .number-is)
+
+    one-side-each : length sides ≡ length (marksOf s)
+    one-side-each =
+        walk-length 0 emptyReach emptyReach (plainMarks (s .places) (s .lengths))
+        ∙ marks-length (s .places) (s .lengths) (checked good)
+        ∙ sym (length-marks s (good .same-lengths) (good .same-weights))
+
+    -- the leftmost edges of the walk's sides are allowed
+    none-beyond : fitsPlain (s .places) (s .lengths) ≡ true → noneBeyond (marksOf s) (leftmostEdges 0 (marksOf s) sides) ≡ true
+    none-beyond fits =
+        let marks : List Mark = plainMarks (s .places) (s .lengths) in
+        rw (← same-edges)
+        (sym (plain-beyond s (good .same-lengths) (good .same-weights) (leftmostEdges 0 marks sides))
+        ∙ walk-allowed 0 emptyReach emptyReach marks (marks-inside (s .places) (s .lengths) (checked good)) (omega arith) fits)
+
+    -- number 0: the answer lists hold a placing
+    placed : n ≡ 0 → Placed (marksOf s) entry exit
+    placed z =
+        let fits = zero-slides (fitsPlain (s .places) (s .lengths)) n (answer .number-is) z in
+        record {
+          sides = sides;
+          one-for-each = one-side-each;
+          placing = leftmost-placing 0 (marksOf s) sides one-side-each (none-beyond fits);
+          sides-written = answer .where-placed z .sides;
+          edges = map placeOf (leftmostEdges 0 (plainMarks (s .places) (s .lengths)) sides);
+          leftmost = dots-back (leftmostEdges 0 (plainMarks (s .places) (s .lengths)) sides) ∙ same-edges;
+          edges-written = answer .where-placed z .edges;
+        }
+
+    -- the contract past the checks
+    pub answered-right : SlideContract s entry exit n
+    answered-right =
+        let misses = eleven-misses (slidesWhole 0 (marksOf s)) n number-is in
+        record {
+          number-is = rw past number-is;
+          none-exactly = λ _. (λ eleven. none-slides 0 (marksOf s) rise (misses .0 eleven), λ none. misses .1 (not-whole (marksOf s) none));
+          where-placed = placed;
+          where-refused = answer .where-none;
+          work-is = rw past (answer .work-cleared);
+        }

@@ -1,3 +1,3 @@
 -- What the slide pass settles. What only inner contracts cite stands under inner.
-pub mod SlidePass
+pub mod Slide
 pub mod inner

@@ -1,24 +1,29 @@
 // The table of what the rest of the strip can still take: for each mark, and each number of dots by which its label may slide, the
 // greatest reach of the other side with which the marks after it can all be placed. A cell holds 0 for none, else one more than that
 // reach's dot.
-use crate::dots;
+use geometry::dot::EMPTY_REACH;
+use geometry::dot::dot_of;
+use geometry::limits::MOST_LENGTH;
+use geometry::numbers::larger_u16;
 ghost use mathlib.Core.Path.{_≡_};
 ghost use mathlib.Core.Bool.{_||_};
-ghost use Prim.Native.Nat.{_+_, _*_, _≤_, _<_, max};
+ghost use Prim.Native.Nat.{_+_, _≤_, _<_};
 ghost use lib.Dec.{ltb, eqb};
-ghost use lib.ListN.{length, getD, drop};
+ghost use lib.ListN.{length, getD};
+ghost use Rattle.geometry.specs.Dot.{emptyReach};
+ghost use Rattle.slide.specs.Slide.{workNamed};
 ghost use Rattle.slide.specs.inner.Plain.{plainMark, plainMarks, Checked};
-ghost use Rattle.slide.specs.inner.Room.{slidBy, furthest, ownSide, otherSide, roomBefore, noBound};
-ghost use Rattle.slide.specs.inner.Table.{rowFrom, FilledTo, TableHolds, TableFrom};
+ghost use Rattle.slide.specs.inner.Room.{noBound, GoodLabel, slidBy, furthest, ownSide, otherSide};
+ghost use Rattle.slide.specs.inner.Table.{rowCells, RowsThere, rowFrom, FilledTo, rowBefore, RowReady, TableFrom};
 
-// Cells of a row: a label slides by 0 to 240 dots.
-pub const ROW: usize = 241;
+// Cells of a row: a label slides by 0 to MOST_LENGTH dots.
+pub const ROW_CELLS: usize = MOST_LENGTH as usize + 1;
 
 // The cell where every reach of the other side will do.
 const NO_BOUND: u16 = 65535;
 
 // How far a label slides from its leftmost place on a side with this reach.
-pub fn slid(place: u16, length: u8, reach: u16) -> usize
+pub fn slid(place: u16, length: u8, reach: u16) -> u16
     requires { ⌜ length < place ⌝ }
     ensures { λ r. ⌜ r ≡ slidBy (plainMark place length) reach ⌝ }
 {
@@ -26,7 +31,7 @@ pub fn slid(place: u16, length: u8, reach: u16) -> usize
     if reach <= start {
         return 0;
     }
-    (reach - start) as usize
+    reach - start
 }
 
 // One more than the greatest slide below `count` whose cell lies beyond the reach, or 0.
@@ -44,20 +49,20 @@ fn furthest_slide(work: &[u16], row: usize, reach: u16, count: usize) -> usize
     0
 }
 
-// The bound where the next label lies on the side of the reach.
-fn own_side(work: &[u16], row: usize, place: u16, length: u8, reach: u16) -> u16
+// The cell of a label on the side of the reach, or 0 where the reach is beyond its mark.
+pub fn own_side(work: &[u16], row: usize, place: u16, length: u8, reach: u16) -> u16
     requires { do ⌜ (length < place) × (row + length < (← ⟦work.len()⟧)) ⌝ }
     ensures { λ r. ⌜ r ≡ ownSide (plainMark place length) reach (rowFrom (now (work .entry)) row) ⌝ }
 {
     if place < reach {
         return 0;
     }
-    work[row + slid(place, length, reach)]
+    work[row + slid(place, length, reach) as usize]
 }
 
 // The bound where it lies on the other side and may slide by less than `slides` dots.
 fn other_side(place: u16, length: u8, slides: usize) -> u16
-    requires { ⌜ (length < place) × (place < 65535) × (slides ≤ length + 1) ⌝ }
+    requires { ⌜ GoodLabel (plainMark place length) × (slides ≤ length + 1) ⌝ }
     ensures { λ r. ⌜ r ≡ otherSide (plainMark place length) slides ⌝ }
 {
     if slides == 0 {
@@ -66,18 +71,9 @@ fn other_side(place: u16, length: u8, slides: usize) -> u16
     place - length as u16 + slides as u16
 }
 
-fn greater(a: u16, b: u16) -> u16
-    ensures { λ r. ⌜ r ≡ max a b ⌝ }
-{
-    if a < b {
-        return b;
-    }
-    a
-}
-
 // The row of the last mark: whatever it does, the rest goes.
 fn fill_last(work: &mut [u16], row: usize, length: u8)
-    requires { do ⌜ (row + 241 ≤ (← ⟦work.len()⟧)) × (1 ≤ length) × (length ≤ 240) ⌝ }
+    requires { ⌜ RowsThere (now work) row 1 × (length < rowCells) ⌝ }
     ensures { λ r. ⌜ FilledTo (now (work .entry)) (now (work .exit)) row (length + 1) (λ d. noBound) ⌝ }
 {
     let last = length as usize;
@@ -90,10 +86,11 @@ fn fill_last(work: &mut [u16], row: usize, length: u8)
 
 // The row of a mark from the row of the next one. The bounds fall as the reach grows, so each scan goes on where the last one stopped.
 fn fill_row(work: &mut [u16], row: usize, place: u16, length: u8, next_place: u16, next_length: u8)
-    requires { do ⌜ (row + 482 ≤ (← ⟦work.len()⟧)) × (1 ≤ length) × (length ≤ 240) × (place + length < 65535) × («next_length» ≤ 240) × («next_length» < «next_place») × («next_place» < 65535) ⌝ }
-    ensures { λ r. ⌜ FilledTo (now (work .entry)) (now (work .exit)) row (length + 1) (λ d. roomBefore (plainMark «next_place» «next_length») (place + d) (rowFrom (now (work .entry)) (row + 241))) ⌝ }
+    requires { ⌜ RowsThere (now work) row 2 × GoodLabel (plainMark place length) × GoodLabel (plainMark «next_place» «next_length») ⌝ }
+    ensures { λ r. ⌜ FilledTo (now (work .entry)) (now (work .exit)) row (length + 1)
+        (rowBefore place (plainMark «next_place» «next_length») (rowFrom (now (work .entry)) (row + rowCells))) ⌝ }
 {
-    let next = row + ROW;
+    let next = row + ROW_CELLS;
     let last = length as usize;
     let mut slides = next_length as usize + 1;
     let mut d = 0;
@@ -102,17 +99,17 @@ fn fill_row(work: &mut [u16], row: usize, place: u16, length: u8, next_place: u1
         slides = furthest_slide(work, next, reach, slides);
         let own = own_side(work, next, next_place, next_length, reach);
         let other = other_side(next_place, next_length, slides);
-        work[row + d] = greater(own, other);
+        work[row + d] = larger_u16(own, other);
         d += 1;
     }
 }
 
 // The row of mark k, from the rows of the marks after it.
 fn fill_mark(places: &[i16], lengths: &[u8], work: &mut [u16], k: usize)
-    requires { ⌜ (Checked (now places) (now lengths)) × (k < length (now places)) × (30000 ≤ length (now work)) × (TableHolds (drop ((k + 1) * 241) (now work)) (drop (k + 1) (plainMarks (now places) (now lengths)))) ⌝ }
+    requires { ⌜ RowReady (now places) (now lengths) (now work) k ⌝ }
     ensures { λ r. ⌜ TableFrom (now (work .entry)) (now (work .exit)) k (plainMarks (now (places .entry)) (now (lengths .entry))) ⌝ }
 {
-    let row = k * ROW;
+    let row = k * ROW_CELLS;
     if k + 1 == places.len() {
         fill_last(work, row, lengths[k]);
         return;
@@ -120,16 +117,16 @@ fn fill_mark(places: &[i16], lengths: &[u8], work: &mut [u16], k: usize)
     fill_row(
         work,
         row,
-        dots::dot_of(places[k]),
+        dot_of(places[k]),
         lengths[k],
-        dots::dot_of(places[k + 1]),
+        dot_of(places[k + 1]),
         lengths[k + 1],
     );
 }
 
 // The rows of all marks, from the last to the first.
 pub fn fill(places: &[i16], lengths: &[u8], work: &mut [u16])
-    requires { ⌜ (Checked (now places) (now lengths)) × (30000 ≤ length (now work)) ⌝ }
+    requires { ⌜ (Checked (now places) (now lengths)) × (workNamed ≤ length (now work)) ⌝ }
     ensures { λ r. ⌜ TableFrom (now (work .entry)) (now (work .exit)) 0 (plainMarks (now (places .entry)) (now (lengths .entry))) ⌝ }
 {
     let mut k = places.len();
@@ -142,10 +139,10 @@ pub fn fill(places: &[i16], lengths: &[u8], work: &mut [u16])
 // Whether the strip has a placing: both sides are empty at first, so the first mark's first cell decides.
 pub fn fits(places: &[i16], work: &[u16]) -> bool
     requires { ⌜ 0 < length (now work) ⌝ }
-    ensures { λ r. ⌜ r ≡ (eqb (length (now (places .entry))) 0 || ltb 1 (getD (now (work .entry)) 0 0)) ⌝ }
+    ensures { λ r. ⌜ r ≡ (eqb (length (now (places .entry))) 0 || ltb emptyReach (getD (now (work .entry)) 0 0)) ⌝ }
 {
     if places.len() == 0 {
         return true;
     }
-    dots::EMPTY_REACH < work[0]
+    EMPTY_REACH < work[0]
 }

@@ -1,9 +1,12 @@
 // The walk from the left, which takes at each mark the first side that the table allows.
-use crate::dots;
 use crate::table;
+use geometry::dot::EMPTY_REACH;
+use geometry::dot::dot_of;
+use geometry::dot::place_of;
 ghost use mathlib.Core.Path.{_≡_};
-ghost use Prim.Native.Nat.{_+_, _<_};
+ghost use Prim.Native.Nat.{_<_};
 ghost use Rattle.geometry.specs.Sliding.{leftmostEdge};
+ghost use Rattle.slide.specs.Slide.{slideLent};
 ghost use Rattle.slide.specs.inner.Plain.{plainMark};
 ghost use Rattle.slide.specs.inner.Table.{rowFrom};
 ghost use Rattle.slide.specs.inner.Walk.{takesAbove, sideOf, LabelOn, StepReady, WalkReady, Walked};
@@ -16,35 +19,21 @@ struct Label {
     below: u16,
 }
 
-// Whether a label can lie above: its edge is not beyond its mark, and the rest goes with the reach below.
-fn takes_above(work: &[u16], row: usize, place: u16, length: u8, above: u16, below: u16) -> bool
-    requires { do ⌜ (length < place) × (row + length < (← ⟦work.len()⟧)) ⌝ }
-    ensures { λ r. ⌜ r ≡ takesAbove above below (plainMark place length) (rowFrom (now (work .entry)) row) ⌝ }
-{
-    if place < above {
-        return false;
-    }
-    below < work[row + table::slid(place, length, above)]
-}
-
 // The left edge of a label as far left as it goes.
 fn leftmost(place: u16, length: u8, reach: u16) -> u16
     requires { ⌜ length < place ⌝ }
     ensures { λ r. ⌜ r ≡ leftmostEdge (plainMark place length) reach ⌝ }
 {
-    let start = place - length as u16;
-    if reach < start {
-        return start;
-    }
-    reach
+    place - length as u16 + table::slid(place, length, reach)
 }
 
-// The next label of the walk, above if it can lie there, else below.
+// The next label of the walk: above if its edge is not beyond its mark and the rest goes with the reach below, else below.
 fn place_label(work: &[u16], row: usize, place: u16, length: u8, above: u16, below: u16) -> Label
-    requires { do ⌜ StepReady (rowFrom (now work) row) (← ⟦work.len()⟧) row place length above below ⌝ }
-    ensures { λ r. ⌜ LabelOn (sideOf (takesAbove above below (plainMark place length) (rowFrom (now (work .entry)) row))) (plainMark place length) above below (r .side) (r .edge) (r .above) (r .below) ⌝ }
+    requires { ⌜ StepReady (now work) row (plainMark place length) above below ⌝ }
+    ensures { λ r. ⌜ LabelOn (sideOf (takesAbove above below (plainMark place length) (rowFrom (now (work .entry)) row)))
+        (plainMark place length) above below (r .side) (r .edge) (r .above) (r .below) ⌝ }
 {
-    if takes_above(work, row, place, length, above, below) {
+    if below < table::own_side(work, row, place, length, above) {
         let edge = leftmost(place, length, above);
         return Label {
             side: 0,
@@ -64,23 +53,25 @@ fn place_label(work: &[u16], row: usize, place: u16, length: u8, above: u16, bel
 
 // Sides and left edges for all marks of a strip that has a placing.
 pub fn walk(places: &[i16], lengths: &[u8], work: &[u16], sides: &mut [u8], edges: &mut [i16])
-    requires { ⌜ WalkReady (now places) (now lengths) (now work) (now sides) (now edges) ⌝ }
-    ensures { λ r. ⌜ Walked (now (places .entry)) (now (lengths .entry)) (now (sides .entry)) (now (sides .exit)) (now (edges .entry)) (now (edges .exit)) ⌝ }
+    requires { ⌜ WalkReady (now places) (now lengths) (slideLent (now sides) (now edges) (now work)) ⌝ }
+    ensures { λ r. ⌜ Walked (now (places .entry)) (now (lengths .entry))
+        (slideLent (now (sides .entry)) (now (edges .entry)) (now (work .entry)))
+        (slideLent (now (sides .exit)) (now (edges .exit)) (now (work .entry))) ⌝ }
 {
-    let mut above = dots::EMPTY_REACH;
-    let mut below = dots::EMPTY_REACH;
+    let mut above = EMPTY_REACH;
+    let mut below = EMPTY_REACH;
     let mut i = 0;
     while i < places.len() {
         let label = place_label(
             work,
-            i * table::ROW,
-            dots::dot_of(places[i]),
+            i * table::ROW_CELLS,
+            dot_of(places[i]),
             lengths[i],
             above,
             below,
         );
         sides[i] = label.side;
-        edges[i] = dots::at_dot(label.edge);
+        edges[i] = place_of(label.edge);
         above = label.above;
         below = label.below;
         i += 1;

@@ -1,70 +1,77 @@
-// The full pass: a table of kept part layouts from the last mark to the first, then a walk from the left.
+// The full pass: for each mark, from the last to the first, how far the side without its label may reach so that all later marks
+// can still be placed, after a label to the left and after one to the right; then a walk from the left. Above and below are
+// alike, so these two numbers a mark are enough. The loops choose by values and not by branches, which random strips would
+// mispredict.
 const WORK: usize = 20_000;
-const NONE: i16 = -32_768;
-const EMPTY: i16 = -32_767;
-const NO_BOUND: i16 = 32_767;
+const NONE: i32 = -32_768;
+const EMPTY: i32 = -32_767;
+const NO_BOUND: i32 = 32_767;
 
-// For each of the positions 2, 3, 1, 4 the greatest reach of the other side with which all later marks can still be placed.
+// A label of the next mark begins at `left` or at `place`, and leaves the other side up to `after_left` or `after_right`, which is
+// never more.
 #[derive(Clone, Copy)]
-struct Kept {
-    reaches: [i16; 4],
-    count: usize,
+struct Next {
+    left: i32,
+    place: i32,
+    after_left: i32,
+    after_right: i32,
 }
 
-fn greatest(reach: i16, place: i16, left: i16, own: [i16; 2], other: [i16; 2]) -> i16 {
-    let allowed = |passed: bool, bound: i16| if passed { bound } else { NONE };
-    allowed(reach <= left, own[0])
-        .max(allowed(reach <= place, own[1]))
-        .max(allowed(reach <= other[0], left))
-        .max(allowed(reach <= other[1], place))
-}
-
-fn kept_before(place: i16, length: u8, next_place: i16, next_length: u8, next: Kept) -> Kept {
-    let left = next_place - next_length as i16;
-    let right = place + length as i16;
-    let [above_left, below_left, above_right, below_right] = next.reaches;
-    let above = [above_left, above_right];
-    let below = [below_left, below_right];
-    let reaches = [
-        greatest(place, next_place, left, above, below),
-        greatest(place, next_place, left, below, above),
-        greatest(right, next_place, left, above, below),
-        greatest(right, next_place, left, below, above),
-    ];
-    Kept { reaches, count: reaches.iter().filter(|reach| **reach != NONE).count() }
-}
-
-fn fill(places: &[i16], lengths: &[u8], work: &mut [i16]) -> Kept {
-    let mut kept = Kept { reaches: [NO_BOUND; 4], count: 4 };
-    let last = places.len().wrapping_sub(1);
-    for i in (0..places.len()).rev() {
-        if i != last {
-            kept = kept_before(places[i], lengths[i], places[i + 1], lengths[i + 1], kept);
-        }
-        work[4 * i..4 * i + 4].copy_from_slice(&kept.reaches);
+impl Next {
+    // The greatest reach of one side, beside another that reaches to `reach`, with which the next mark and all later ones go.
+    fn greatest(self, reach: i32) -> i32 {
+        let beside = if reach <= self.left {
+            self.after_left
+        } else if reach <= self.place {
+            self.after_right
+        } else {
+            NONE
+        };
+        let opposite = if reach <= self.after_right {
+            self.place
+        } else if reach <= self.after_left {
+            self.left
+        } else {
+            NONE
+        };
+        beside.max(opposite)
     }
-    kept
 }
 
+// Whether there is a placing: there is none as soon as a mark leaves the other side nothing, and then the rest is not filled.
+fn fill(places: &[i16], lengths: &[u8], work: &mut [i16]) -> bool {
+    let mut next = Next { left: NO_BOUND, place: NO_BOUND, after_left: NO_BOUND, after_right: NO_BOUND };
+    for ((&place, &length), row) in places.iter().zip(lengths).zip(work.chunks_exact_mut(2)).rev() {
+        let (place, length) = (place as i32, length as i32);
+        let (after_left, after_right) = (next.greatest(place), next.greatest(place + length));
+        if after_left == NONE {
+            return false;
+        }
+        row[0] = after_left as i16;
+        row[1] = after_right as i16;
+        next = Next { left: place - length, place, after_left, after_right };
+    }
+    true
+}
+
+// Two differences are both at least 0 exactly if their bitwise or is.
 fn walk(places: &[i16], lengths: &[u8], work: &[i16], positions: &mut [u8]) {
     let (mut above, mut below) = (EMPTY, EMPTY);
-    for (i, row) in work.chunks_exact(4).take(places.len()).enumerate() {
-        let place = places[i];
-        let left = place - lengths[i] as i16;
-        let right = place + lengths[i] as i16;
-        positions[i] = if above <= left && below <= row[0] {
-            above = place;
-            2
-        } else if below <= left && above <= row[1] {
-            below = place;
-            3
-        } else if above <= place && below <= row[2] {
-            above = right;
-            1
-        } else {
-            below = right;
-            4
-        };
+    for (((&place, &length), row), position) in places.iter().zip(lengths).zip(work.chunks_exact(2)).zip(positions) {
+        let (place, length) = (place as i32, length as i32);
+        let (after_left, after_right) = (row[0] as i32, row[1] as i32);
+        let (left, right) = (place - length, place + length);
+        let above_left = (left - above) | (after_left - below);
+        let below_left = (left - below) | (after_left - above);
+        let above_right = (place - above) | (after_right - below);
+        let mut taken = if above_right >= 0 { (1, right, below) } else { (4, above, right) };
+        if below_left >= 0 {
+            taken = (3, above, place);
+        }
+        if above_left >= 0 {
+            taken = (2, place, below);
+        }
+        (*position, above, below) = taken;
     }
 }
 
@@ -74,9 +81,10 @@ pub fn full(places: &[i16], lengths: &[u8], weights: &[u16], positions: &mut [u8
     if number != 0 {
         return number;
     }
-    let fits = fill(places, lengths, work).count != 0;
+    let table = &mut work[..2 * places.len()];
+    let fits = fill(places, lengths, table);
     if fits {
-        walk(places, lengths, work, positions);
+        walk(places, lengths, table, positions);
     }
     work[..WORK].fill(0);
     if fits {

@@ -4,21 +4,25 @@ pub mod full;
 pub mod job;
 pub mod slide;
 
+// Rising places lie in the range if the first and the last do. Each list is looked at whole, so that the compiler takes several
+// elements at once.
+fn in_range(places: &[i16], lengths: &[u8], weights: &[u16]) -> bool {
+    let (Some(first), Some(last)) = (places.first(), places.last()) else { return true };
+    let rising = places.iter().zip(&places[1..]).fold(true, |good, (one, next)| good & (one < next));
+    let lengths = lengths.iter().fold(true, |good, length| good & (1..=240).contains(length));
+    let weights = weights.iter().fold(true, |good, weight| good & (1..=1_000).contains(weight));
+    -30_000 <= *first && *last <= 30_000 && rising && lengths && weights
+}
+
 pub fn check_marks(places: &[i16], lengths: &[u8], weights: &[u16], most: usize) -> u8 {
     if places.len() != lengths.len() || places.len() != weights.len() {
-        return 6;
-    }
-    if places.len() > most {
-        return 7;
-    }
-    let good = places.iter().all(|place| (-30_000..=30_000).contains(place))
-        && places.windows(2).all(|pair| pair[0] < pair[1])
-        && lengths.iter().all(|length| (1..=240).contains(length))
-        && weights.iter().all(|weight| (1..=1_000).contains(weight));
-    if good {
-        0
-    } else {
+        6
+    } else if places.len() > most {
+        7
+    } else if !in_range(places, lengths, weights) {
         8
+    } else {
+        0
     }
 }
 

@@ -1,50 +1,54 @@
 // The slide pass: for each mark and each number of dots by which its label slides, the greatest reach of the other side with which
-// the rest goes; then a walk from the left.
+// the rest goes; then a walk from the left. A row has 256 cells, of which 241 are used, so that an index of 8 bits needs no test.
 const WORK: usize = 30_000;
-const ROW: usize = 241;
+const ROW: usize = 256;
+
+type Row = [u16; ROW];
 
 fn dot(place: i16) -> u16 {
-    (place as i32 + 32_768) as u16
+    place as u16 ^ 0x8000
 }
 
-fn fill_row(work: &mut [u16], place: u16, length: u8, next_place: u16, next_length: u8) {
-    let (row, next) = work.split_at_mut(ROW);
+fn at(row: &Row, slide: u16) -> u16 {
+    row[slide as u8 as usize]
+}
+
+fn fill_row(row: &mut Row, next: &Row, place: u16, length: u8, next_place: u16, next_length: u8) {
     let start = next_place - next_length as u16;
-    let mut slides = next_length as usize + 1;
-    for (d, cell) in row.iter_mut().enumerate().take(length as usize + 1) {
+    let mut slides = next_length as u16 + 1;
+    for d in 0..=length {
         let reach = place + d as u16;
-        while slides > 0 && next[slides - 1] <= reach {
+        while slides > 0 && at(next, slides - 1) <= reach {
             slides -= 1;
         }
-        let own = if next_place < reach { 0 } else { next[reach.saturating_sub(start) as usize] };
-        let other = if slides == 0 { 0 } else { start + slides as u16 };
-        *cell = own.max(other);
+        let own = if next_place < reach { 0 } else { at(next, reach.saturating_sub(start)) };
+        let other = if slides == 0 { 0 } else { start + slides };
+        row[d as usize] = own.max(other);
     }
 }
 
-fn fill(places: &[i16], lengths: &[u8], work: &mut [u16]) {
-    let marks = places.len();
-    for k in (0..marks).rev() {
-        let rows = &mut work[k * ROW..];
-        if k + 1 == marks {
-            rows[..=lengths[k] as usize].fill(u16::MAX);
+fn fill(places: &[i16], lengths: &[u8], rows: &mut [Row]) {
+    for k in (0..places.len()).rev() {
+        let (row, later) = rows[k..].split_first_mut().unwrap();
+        if k + 1 == places.len() {
+            row.fill(u16::MAX);
         } else {
-            fill_row(rows, dot(places[k]), lengths[k], dot(places[k + 1]), lengths[k + 1]);
+            fill_row(row, &later[0], dot(places[k]), lengths[k], dot(places[k + 1]), lengths[k + 1]);
         }
     }
 }
 
-fn walk(places: &[i16], lengths: &[u8], work: &[u16], sides: &mut [u8], edges: &mut [i16]) {
+fn walk(places: &[i16], lengths: &[u8], rows: &[Row], sides: &mut [u8], edges: &mut [i16]) {
     let (mut above, mut below) = (1, 1);
-    for (i, row) in work.chunks_exact(ROW).take(places.len()).enumerate() {
+    for (i, row) in rows.iter().enumerate().take(places.len()) {
         let (place, length) = (dot(places[i]), lengths[i] as u16);
         let start = place - length;
-        let on_top = above <= place && below < row[above.saturating_sub(start) as usize];
+        let on_top = above <= place && below < at(row, above.saturating_sub(start));
         let reach = if on_top { &mut above } else { &mut below };
         let edge = start.max(*reach);
         *reach = edge + length;
         sides[i] = !on_top as u8;
-        edges[i] = (edge as i32 - 32_768) as i16;
+        edges[i] = (edge ^ 0x8000) as i16;
     }
 }
 
@@ -55,10 +59,11 @@ pub fn slide(places: &[i16], lengths: &[u8], weights: &[u16], sides: &mut [u8], 
     if number != 0 {
         return number;
     }
-    fill(places, lengths, work);
-    let fits = places.is_empty() || 1 < work[0];
+    let (rows, _) = work.as_chunks_mut();
+    fill(places, lengths, rows);
+    let fits = places.is_empty() || 1 < rows[0][0];
     if fits {
-        walk(places, lengths, work, sides, edges);
+        walk(places, lengths, rows, sides, edges);
     }
     work[..WORK].fill(0);
     if fits {

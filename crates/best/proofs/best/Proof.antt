@@ -1,28 +1,40 @@
 -- `best::best` meets its contract: the first check that is not passed decides, and else the parts give what it says.
 use mathlib.Core.Path.{_≡_}
 use native.Mathlib.Omega.{arith}
-use Rattle.geometry.specs.Refusal.{Verdict, accepted, numberOf}
-use Rattle.best.specs.Best.{Lent, lent, verdictOf}
-use Rattle.best.proofs.Answers.{verdict-number, verdict-accepted, answer-refused, accepted-strip, positions-enough, left-out-enough, answer-accepted}
+use Rattle.geometry.specs.Strip.{Strip, strip}
+use Rattle.geometry.specs.Refusal.{accepted, numberOf}
+use Rattle.best.specs.Best.{BestLent, bestLent, bestChecks}
+use Rattle.best.proofs.Contract.{number-found, answer-refused, zero-passes, accepted-checked, lists-enough, answer-accepted}
 use borrow.Author.Needs.{needs}
 use Rattle.best.proofs.best.Statement.{statement}
 use Rattle.best.proofs.best.Tie as tie
 
--- the start, the lent lists as they came, and the verdict on them
+-- what was passed; then the checks, the labels, and the listing of the marks without one
 abbrev start : tie.After-check-pass → tie.Start
-start c = c .before .before .before .before .before .before .before
+start c = let measured = c .before in let lists = measured .before .before .before in lists .before .before .before
 
-abbrev before : tie.After-check-pass → Lent
-before c = lent (start c .args .positions .now) (start c .args .left-out .now) (start c .args .work .now)
+abbrev passed : tie.After-label-marks-arg2 → tie.Else1
+passed c = c .before .before
 
-abbrev verdict : tie.After-check-pass → Verdict
-verdict c = verdictOf (start c .args .places .now) (start c .args .lengths .now) (start c .args .weights .now) (before c)
+abbrev labelled : tie.After-list-left-out-arg2 → tie.After-label-marks
+labelled c = let lent = c .before .before .before in lent .before .before .before
 
-number-is : (c : tie.After-check-pass) → c .check-pass .result ≡ numberOf (verdict c)
-number-is c = verdict-number _ _ _ (before c) _ (c .before .smaller .result) (c .before .smaller .ensures) (c .check-pass .ensures)
+abbrev marks : tie.Start → Strip
+marks a = strip (a .args .places .now) (a .args .lengths .now) (a .args .weights .now)
 
-passes : (c : tie.Else1) → verdict (c .before) ≡ accepted
-passes c = verdict-accepted _ _ _ (before (c .before)) _ (number-is (c .before)) (c .if1 .left)
+abbrev entry : tie.Start → BestLent
+entry a = bestLent (a .args .positions .now) (a .args .left-out .now) (a .args .work .now)
+
+number-is : (c : tie.After-check-pass) → c .check-pass .result ≡ numberOf (bestChecks (marks (start c)) (entry (start c)))
+number-is c =
+    let shortest = c .before .smaller in
+    number-found (marks (start c)) (entry (start c)) _ (shortest .result) (shortest .ensures) (c .check-pass .ensures)
+
+passes : (c : tie.Else1) → bestChecks (marks (start (c .before))) (entry (start (c .before))) ≡ accepted
+passes c =
+    let a = start (c .before) in
+    let zero : c .before .check-pass .result ≡ 0 = omega arith in
+    zero-passes (marks a) (entry a) _ (number-is (c .before)) zero
 
 smaller-requires : tie.Need-smaller-requires
 smaller-requires c κs = search needs
@@ -31,20 +43,24 @@ check-pass-requires : tie.Need-check-pass-requires
 check-pass-requires c κs = search needs
 
 returns : tie.Need-returns
-returns c = answer-refused _ _ _ (before (c .before)) _ (number-is (c .before)) (c .if1 .taken)
+returns c =
+    let a = start (c .before) in
+    let not-zero : c .before .check-pass .result ≡ 0 → ⊥ = λ e. omega arith in
+    answer-refused (marks a) (entry a) _ (number-is (c .before)) not-zero
 
 label-marks-requires : tie.Need-label-marks-requires
 label-marks-requires c κs =
-    let ok = passes (c .before .before) in
-    let b = before (c .before .before .before) in (accepted-strip _ _ _ b ok, positions-enough _ _ _ b ok)
+    let point = passed c in
+    let a = start (point .before) in
+    (accepted-checked (marks a) (entry a) (passes point), lists-enough (marks a) (entry a) (passes point) .0)
 
 list-left-out-requires : tie.Need-list-left-out-requires
 list-left-out-requires c κs =
-    let ok = passes (c .before .before .before .before .before .before .before .before .before) in
-    let b = before (c .before .before .before .before .before .before .before .before .before .before) in
-    let p = positions-enough _ _ _ b ok in
-    let k = c .before .before .before .before .before .before .label-marks .kept .1 .1 .1 .0 in
-    (accepted-strip _ _ _ b ok .few, (omega arith, left-out-enough _ _ _ b ok))
+    let point = passed (labelled c .before) in
+    let a = start (point .before) in
+    let same = labelled c .label-marks .kept .1 .1 .1 .0 in
+    let enough = lists-enough (marks a) (entry a) (passes point) in
+    (accepted-checked (marks a) (entry a) (passes point) .few, (omega arith, enough .1))
 
 same-length : tie.Need-same-length
 same-length c = search needs
@@ -57,10 +73,13 @@ same-length-3 c = search needs
 
 returns-2 : tie.Need-returns-2
 returns-2 c =
-    let m = c .before .before .before .before .before .before .before .before .before .label-marks in
-    let l = c .before .before .list-left-out in
-    answer-accepted _ _ _ (before (c .before .before .before .before .before .before .before .before .before .before .before .before .before)) (passes (c .before .before .before .before .before .before .before .before .before .before .before .before)) (lent (m .last .1 .1 .1 .0) (l .last .1 .1 .0) (m .last .1 .1 .1 .1 .0)) (m .result) (l .result)
-    (m .ensures .0) (m .ensures .1 .0) (m .ensures .1 .1) (l .ensures .0) (l .ensures .1)
+    let listing = c .before .before in
+    let labels = labelled (listing .before) .label-marks in
+    let out = listing .list-left-out in
+    let point = passed (labelled (listing .before) .before) in
+    let a = start (point .before) in
+    let exit = bestLent (labels .last .1 .1 .1 .0) (out .last .1 .1 .0) (labels .last .1 .1 .1 .1 .0) in
+    answer-accepted (marks a) (entry a) (passes point) exit _ _ (labels .ensures) (out .ensures .0) (out .ensures .1)
 
 pub best-spec : {M : Type 1} → statement M
 best-spec =

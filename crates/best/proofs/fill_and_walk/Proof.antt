@@ -1,19 +1,40 @@
 -- `best::fill_and_walk` meets its contract: the filled table, the walk by it, and its first cell.
-use Rattle.best.proofs.Cells.{strip-again, ready-again}
-use Rattle.best.proofs.Lent.{cleared-again}
-use Rattle.best.proofs.Walked.{first-cell}
+use mathlib.Core.List.{List}
+use Prim.Native.Nat.{ℕ}
+use Rattle.geometry.specs.Strip.{Strip, strip}
+use Rattle.geometry.proofs.Lent.{cleared-again}
+use Rattle.best.specs.Best.{workNamed}
+use Rattle.best.proofs.RenewedInParts.{ready-again}
+use Rattle.best.proofs.WalkIsBest.{first-cell}
 use borrow.Author.Needs.{needs}
 use Rattle.best.proofs.fill_and_walk.Statement.{statement}
 use Rattle.best.proofs.fill_and_walk.Tie as tie
+
+-- what was passed; then the table is filled, the labels are placed, and the work area is cleared
+abbrev start : tie.After-fill → tie.Start
+start c = let called = c .before in let lists = called .before .before .before in lists .before .before .before
+
+abbrev filled : tie.After-place-labels-arg2 → tie.After-fill
+filled c = let lent = c .before .before in lent .before .before
+
+abbrev walked : tie.After-clear → tie.After-place-labels
+walked c = let lent = c .before .before .before in lent .before .before
+
+abbrev marks : tie.Start → Strip
+marks a = strip (a .args .places .now) (a .args .lengths .now) (a .args .weights .now)
+
+-- the filled table
+abbrev table : tie.After-fill → List ℕ
+table c = c .fill .last .1 .1 .1 .1 .0
 
 fill-requires : tie.Need-fill-requires
 fill-requires c κs = search needs
 
 place-labels-requires : tie.Need-place-labels-requires
 place-labels-requires c κs =
-    let a = c .before .before .before .before .before .before .before .before .before .before in
-    let f = c .before .before .before .before .fill in
-    (ready-again (a .args .work .now) (f .last .1 .1 .1 .1 .0) (a .pre .0) (f .kept .1 .1 .1 .1 .0), (f .ensures .0, a .pre .1))
+    let fill = filled c .fill in
+    let a = start (filled c) in
+    (ready-again (a .args .work .now) (table (filled c)) (a .pre .0) (fill .kept .1 .1 .1 .1 .0), (fill .ensures .0, a .pre .1))
 
 slice-read-sum : tie.Need-slice-read-sum
 slice-read-sum c = search needs
@@ -29,15 +50,16 @@ same-length-2 c = search needs
 
 returns : tie.Need-returns
 returns c =
-    let a = c .before .before .before .before .before .before .before .before .before .before .before .before .before .before .before .before .before .before in
-    let f = c .before .before .before .before .before .before .before .before .before .before .before .before .fill in
-    let x = c .before .before .clear in (
-      c .before .before .before .before .before .before .before .place-labels .ensures,
-      (
-        first-cell 0 _ _ _ _ (strip-again (a .args .work .now) (f .last .1 .1 .1 .1 .0) (a .pre .0 .strip) (f .kept .1 .1 .1 .1 .0)) (f .ensures .0),
-        cleared-again 15000 (x .last .0) (f .last .1 .1 .1 .1 .0) (a .args .work .now) (x .ensures) (f .ensures .1),
-      ),
-    )
+    let zeros = c .before .before in
+    let walk = walked zeros in
+    let fill = filled (walk .before) .fill in
+    let a = start (filled (walk .before)) in
+    let again = cleared-again workNamed 0 (zeros .clear .last .0) (table (filled (walk .before))) (a .args .work .now) in
+    record {
+      positions-written = walk .place-labels .ensures;
+      sum-is = first-cell 0 (marks a) _ (fill .ensures .0);
+      work-cleared = again (zeros .clear .ensures) (fill .ensures .1);
+    }
 
 pub fill-and-walk-spec : {M : Type 1} → statement M
 fill-and-walk-spec =

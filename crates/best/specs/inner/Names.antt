@@ -10,26 +10,18 @@ use lib.ListN.{length, getD}
 use Rattle.geometry.specs.Dot.{dot, emptyReach}
 use Rattle.geometry.specs.Lists.{every}
 use Rattle.geometry.specs.Mark.{Mark, placeInRange}
-use Rattle.geometry.specs.Position.{Direction, leftward, rightward, above, below, Position, unlabelled, at, aboveAfter, belowAfter}
+use Rattle.geometry.specs.Strip.{Strip, mostShort}
+use Rattle.geometry.specs.Position.{Side, Direction, leftward, rightward, Position}
 use Rattle.geometry.specs.Overlap.{rightEnd}
-use Rattle.best.specs.declared.label.Position as coded
-use Rattle.best.specs.declared.label.Position.the-variants.{Unlabelled, AboveRight, AboveLeft, BelowLeft, BelowRight}
+use Rattle.best.specs.inner.Positions.{liesOn, directionAt}
 
--- what the program's positions stand for
-abbrev pub positionOf : coded.Position → Position
-positionOf Unlabelled = unlabelled
-positionOf AboveRight = at above rightward
-positionOf AboveLeft = at above leftward
-positionOf BelowLeft = at below leftward
-positionOf BelowRight = at below rightward
+-- how many names there are for the last label of a side before the mark with index k: two for none, and two for each mark
+abbrev pub namesBefore : ℕ → ℕ
+namesBefore k = 2 * k + 2
 
--- the mark with index i
-abbrev pub markAt : List ℤ → List ℕ → List ℕ → ℕ → Mark
-markAt zs ls ws i = record { place = dot (getD zs i (pos 0)); labelLength = getD ls i 0; weight = getD ws i 0 }
-
--- the same without its weight, on which no end of its label depends
-abbrev labelAt : List ℤ → List ℕ → ℕ → Mark
-labelAt zs ls i = record { place = dot (getD zs i (pos 0)); labelLength = getD ls i 0; weight = 0 }
+-- how many there are in a strip of the most marks
+abbrev pub names : ℕ
+names = namesBefore mostShort
 
 -- the name of the label of the mark with index k
 abbrev pub nameOf : ℕ → Direction → ℕ
@@ -39,18 +31,23 @@ nameOf k rightward = 2 * k + 3
 abbrev pub directionOf : ℕ → Direction
 directionOf name = cond (eqb (name % 2) 0) leftward rightward
 
+-- the last label of a side once the mark with index k is at p
+abbrev pub lastAfter : Side → ℕ → Position → ℕ → ℕ
+lastAfter s k p last = cond (liesOn s p) (nameOf k (directionAt p)) last
+
+-- a mark without its weight, on which no end of its label depends
+abbrev pub labelOf : ℕ → ℕ → Mark
+labelOf place length = record { place = place; labelLength = length; weight = 0 }
+
+abbrev pub labelAt : List ℤ → List ℕ → ℕ → Mark
+labelAt zs ls i = labelOf (dot (getD zs i (pos 0))) (getD ls i 0)
+
 -- the reach of a side whose last label has this name: the label's right end with the gap
 unfoldable pub reachNamed : ℕ → List ℤ → List ℕ → ℕ → ℕ
 reachNamed g zs ls name = cond (ltb name 2) emptyReach (rightEnd (labelAt zs ls (name / 2 - 1)) (directionOf name) + g)
 
--- the last labels once the mark with index k is at p
-abbrev pub aboveNamed : ℕ → Position → ℕ → ℕ
-aboveNamed k unlabelled x = x
-aboveNamed k (at s d) x = aboveAfter s (nameOf k d) x
-
-abbrev pub belowNamed : ℕ → Position → ℕ → ℕ
-belowNamed k unlabelled y = y
-belowNamed k (at s d) y = belowAfter s (nameOf k d) y
+abbrev pub reachAt : ℕ → Strip → ℕ → ℕ
+reachAt g s name = reachNamed g (s .places) (s .lengths) name
 
 -- the name is that of no label or of one of a mark of the lists
 pub record Known (zs : List ℤ) (ls : List ℕ) (name : ℕ) : Type 0 where
@@ -58,7 +55,7 @@ pub record Known (zs : List ℤ) (ls : List ℕ) (name : ℕ) : Type 0 where
   pub places-good : every placeInRange zs ≡ true
   pub within : name / 2 ≤ length zs
 
--- a list that has the reach of each of these names, as signed numbers
-pub record Reaches (zs : List ℤ) (ls : List ℕ) (reaches : List ℤ) : Type 0 where
-  pub long : 2 * length zs + 2 ≤ length reaches
-  pub reach : (name : ℕ) → name / 2 ≤ length zs → dot (getD reaches name (pos 0)) ≡ reachNamed 0 zs ls name
+-- a list that has the reach of each of these names
+pub record Reaches (zs : List ℤ) (ls reaches : List ℕ) : Type 0 where
+  pub long : namesBefore (length zs) ≤ length reaches
+  pub reach : (name : ℕ) → name / 2 ≤ length zs → getD reaches name 0 ≡ reachNamed 0 zs ls name

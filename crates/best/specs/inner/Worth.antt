@@ -1,35 +1,25 @@
 -- What the rest of a strip can still earn beside two reaches, and the choice that earns it, by recursion.
 use mathlib.Core.List.{List, [], _∷_}
 use mathlib.Core.Option.{Option, none, some}
-use mathlib.Core.Bool.{Bool, true, _&&_}
+use mathlib.Core.Bool.{cond, _&&_}
 use Prim.Native.Nat.{ℕ, _+_}
-use lib.Dec.{leb, eqb}
+use lib.Dec.{eqb}
+use Rattle.geometry.specs.Dot.{emptyReach}
 use Rattle.geometry.specs.Lists.{firstOf, greatestOf}
 use Rattle.geometry.specs.Mark.{Mark}
-use Rattle.geometry.specs.Position.{leftward, rightward, Position, unlabelled, at, ownReach, ranked, everyPosition}
-use Rattle.geometry.specs.Overlap.{leftEnd}
-use Rattle.geometry.specs.inner.Machine.{nextAbove, nextBelow}
-
--- the label of m at p fits beside the reaches a and b
-abbrev pub roomFor : ℕ → ℕ → Mark → Position → Bool
-roomFor a b m unlabelled = true
-roomFor a b m (at s d) = leb (ownReach s a b) (leftEnd m d)
-
--- the same by where its labels to the left and to the right begin
-abbrev pub roomBetween : ℕ → ℕ → ℕ → ℕ → Position → Bool
-roomBetween a b left right unlabelled = true
-roomBetween a b left right (at s leftward) = leb (ownReach s a b) left
-roomBetween a b left right (at s rightward) = leb (ownReach s a b) right
+use Rattle.geometry.specs.Strip.{Strip, marksOf}
+use Rattle.geometry.specs.Position.{Position, unlabelled, labelled, ranked, everyPosition}
+use Rattle.geometry.specs.inner.Machine.{roomFor, nextAbove, nextBelow}
 
 -- what a mark of weight w earns at a position
 abbrev pub earnedBy : ℕ → Position → ℕ
-earnedBy w unlabelled = 0
-earnedBy w (at s d) = w
+earnedBy w p = cond (labelled p) w 0
 
 -- the greatest sum of the marks ms beside the reaches a and b
 unfoldable pub worth : ℕ → ℕ → ℕ → List Mark → ℕ
 worth g a b [] = 0
-worth g a b (m ∷ ms) = greatestOf (roomFor a b m) (λ p. earnedBy (m .weight) p + worth g (nextAbove g a m p) (nextBelow g b m p) ms) everyPosition
+worth g a b (m ∷ ms) =
+    greatestOf (roomFor a b m) (λ p. earnedBy (m .weight) p + worth g (nextAbove g a m p) (nextBelow g b m p) ms) everyPosition
 
 -- a mark that no label suits gets none
 abbrev pub orUnlabelled : Option Position → Position
@@ -49,3 +39,10 @@ bestFrom g a b [] = []
 bestFrom g a b (m ∷ ms) =
     let p = pickedFrom g a b m ms in
     p ∷ bestFrom g (nextAbove g a m p) (nextBelow g b m p) ms
+
+-- both for a whole strip, beside two sides without labels
+abbrev pub wholeWorth : ℕ → Strip → ℕ
+wholeWorth g s = worth g emptyReach emptyReach (marksOf s)
+
+abbrev pub wholeChoice : ℕ → Strip → List Position
+wholeChoice g s = bestFrom g emptyReach emptyReach (marksOf s)

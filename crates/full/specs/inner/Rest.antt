@@ -8,64 +8,43 @@ use lib.IntN.{ℤ}
 use lib.Signed.{mag}
 use Rattle.geometry.specs.Dot.{dot}
 use Rattle.geometry.specs.Mark.{Mark}
-use Rattle.geometry.specs.Position.{Position, unlabelled, at, above, below, leftward, rightward, code, ownReach, aboveAfter, belowAfter}
-use Rattle.geometry.specs.Overlap.{leftEnd}
-use Rattle.geometry.specs.inner.Machine.{nextAbove, nextBelow}
+use Rattle.geometry.specs.Position.{Position, at, above, below, leftward, rightward, code}
+use Rattle.geometry.specs.inner.Machine.{roomFor, nextAbove, nextBelow}
 
--- the label of m at p fits beside the reaches a and b
-abbrev pub roomTest : ℕ → ℕ → Mark → Position → Bool
-roomTest a b m unlabelled = true
-roomTest a b m (at s d) = leb (ownReach s a b) (leftEnd m d)
-
--- the marks can all be placed beside the reaches a and b
+-- The marks can all be placed beside the reaches a and b. That this is about placings (`first-placing-is` in proofs/) rests on two
+-- things that a wider model would change: the test that a choice is good, which is `free`, and the order of the places, which rise.
 unfoldable pub can : ℕ → ℕ → ℕ → List Mark → Bool
 can g a b [] = true
 can g a b (m ∷ ms) =
-    (roomTest a b m (at above leftward) && can g (nextAbove g a m (at above leftward)) (nextBelow g b m (at above leftward)) ms)
-    || ((roomTest a b m (at below leftward) && can g (nextAbove g a m (at below leftward)) (nextBelow g b m (at below leftward)) ms)
-    || ((roomTest a b m (at above rightward) && can g (nextAbove g a m (at above rightward)) (nextBelow g b m (at above rightward)) ms)
-    || (roomTest a b m (at below rightward) && can g (nextAbove g a m (at below rightward)) (nextBelow g b m (at below rightward)) ms)))
+    (roomFor a b m (at above leftward) && can g (nextAbove g a m (at above leftward)) (nextBelow g b m (at above leftward)) ms)
+    || ((roomFor a b m (at below leftward) && can g (nextAbove g a m (at below leftward)) (nextBelow g b m (at below leftward)) ms)
+    || ((roomFor a b m (at above rightward) && can g (nextAbove g a m (at above rightward)) (nextBelow g b m (at above rightward)) ms)
+    || (roomFor a b m (at below rightward) && can g (nextAbove g a m (at below rightward)) (nextBelow g b m (at below rightward)) ms)))
 
 -- the mark m fits at p and the marks behind it can then all be placed
 abbrev pub leaves : ℕ → ℕ → ℕ → Mark → List Mark → Position → Bool
-leaves g a b m ms p = roomTest a b m p && can g (nextAbove g a m p) (nextBelow g b m p) ms
+leaves g a b m ms p = roomFor a b m p && can g (nextAbove g a m p) (nextBelow g b m p) ms
+
+-- 2, 3 or 1 by the first of their tests that is passed, else 4
+abbrev pub firstPassed : Bool → Bool → Bool → Position
+firstPassed two three one = cond two (at above leftward) (cond three (at below leftward) (cond one (at above rightward) (at below rightward)))
 
 -- the first position in the order 2, 3, 1, 4 that leaves the rest possible, 4 if none does
 abbrev pub pick : ℕ → ℕ → ℕ → Mark → List Mark → Position
-pick g a b m ms =
-    cond (leaves g a b m ms (at above leftward)) (at above leftward)
-    (cond (leaves g a b m ms (at below leftward)) (at below leftward)
-    (cond (leaves g a b m ms (at above rightward)) (at above rightward) (at below rightward)))
+pick g a b m ms = firstPassed (leaves g a b m ms (at above leftward)) (leaves g a b m ms (at below leftward)) (leaves g a b m ms (at above rightward))
 
 unfoldable pub walk : ℕ → ℕ → ℕ → List Mark → List Position
 walk g a b [] = []
 walk g a b (m ∷ ms) = let p = pick g a b m ms in p ∷ walk g (nextAbove g a m p) (nextBelow g b m p) ms
 
--- the same by what a row leaves: the left ends of the two directions, and the four reaches in the order 2, 3, 1, 4
+-- the same by what a row leaves: the left ends of the two directions, and what positions 2, 3 and 1 leave to the other side
 abbrev pub pickByRow : ℕ → ℕ → ℕ → ℕ → ℕ → ℕ → ℕ → Position
-pickByRow a b left right first second third =
-    cond (leb a left && leb b first) (at above leftward)
-    (cond (leb b left && leb a second) (at below leftward)
-    (cond (leb a right && leb b third) (at above rightward) (at below rightward)))
+pickByRow a b left right first second third = firstPassed (leb a left && leb b first) (leb b left && leb a second) (leb a right && leb b third)
 
--- where a label in a direction ends, from the two right ends
-abbrev pub endOf : Position → ℕ → ℕ → ℕ
-endOf unlabelled x y = x
-endOf (at s leftward) x y = x
-endOf (at s rightward) x y = y
-
-abbrev pub aboveBy : Position → ℕ → ℕ → ℕ
-aboveBy unlabelled end a = a
-aboveBy (at s d) end a = aboveAfter s end a
-
-abbrev pub belowBy : Position → ℕ → ℕ → ℕ
-belowBy unlabelled end b = b
-belowBy (at s d) end b = belowAfter s end b
-
--- a step of the walk over signed numbers: the position's number and the two reaches after it
-pub record Stepped (p : Position) (above below place right : ℤ) (position : ℕ) (above′ below′ : ℤ) : Type 0 where
+-- A step of the walk at a mark with this place and length, over signed numbers: the position's number and the two reaches after it.
+pub record Stepped (above below place : ℤ) (labelLength : ℕ) (p : Position) (position : ℕ) (above′ below′ : ℤ) : Type 0 where
   pub position-is : position ≡ code p
-  pub above-is : dot above′ ≡ aboveBy p (endOf p (dot place) (dot right)) (dot above)
-  pub below-is : dot below′ ≡ belowBy p (endOf p (dot place) (dot right)) (dot below)
+  pub above-is : (weight : ℕ) → dot above′ ≡ nextAbove 0 (dot above) (record { place = dot place; labelLength = labelLength; weight = weight }) p
+  pub below-is : (weight : ℕ) → dot below′ ≡ nextBelow 0 (dot below) (record { place = dot place; labelLength = labelLength; weight = weight }) p
   pub above-held : mag above′ < 32768
   pub below-held : mag below′ < 32768

@@ -1,10 +1,10 @@
--- The mark at an index of the three lists.
+-- The mark at an index of a strip.
 use Prim.Native.Nat.{ℕ}
-use mathlib.Core.List.{List}
-use lib.IntN.{ℤ, pos}
+use lib.IntN.{pos}
 use lib.ListN.{getD}
 use Rattle.geometry.specs.Dot.{dot}
 use Rattle.geometry.specs.Mark.{Mark}
+use Rattle.geometry.specs.Strip.{Strip}
 
-abbrev pub markAt : List ℤ → List ℕ → List ℕ → ℕ → Mark
-markAt zs ls ws i = record { place = dot (getD zs i (pos 0)); labelLength = getD ls i 0; weight = getD ws i 0 }
+abbrev pub markAt : Strip → ℕ → Mark
+markAt s i = record { place = dot (getD (s .places) i (pos 0)); labelLength = getD (s .lengths) i 0; weight = getD (s .weights) i 0 }

@@ -1,7 +1,9 @@
 -- A walk from left to right that holds the two reaches. The reaches are effective: a label's right end plus the gap, or
 -- `emptyReach` for a side without labels, so that a label fits if its left end is not below its side's reach.
 use Prim.Native.Nat.{ℕ, _+_, _≤_}
+use mathlib.Core.Bool.{Bool, true}
 use mathlib.Core.List.{List, [], _∷_}
+use lib.Dec.{leb}
 use Rattle.geometry.specs.Mark.{Mark}
 use Rattle.geometry.specs.Position.{Position, unlabelled, at, ownReach, aboveAfter, belowAfter}
 use Rattle.geometry.specs.Overlap.{leftEnd, rightEnd}
@@ -10,6 +12,11 @@ use Rattle.geometry.specs.Overlap.{leftEnd, rightEnd}
 abbrev pub Room : ℕ → ℕ → Mark → Position → Type 0
 Room a b m unlabelled = Unit {0}
 Room a b m (at s d) = ownReach s a b ≤ leftEnd m d
+
+-- the same as a test
+abbrev pub roomFor : ℕ → ℕ → Mark → Position → Bool
+roomFor a b m unlabelled = true
+roomFor a b m (at s d) = leb (ownReach s a b) (leftEnd m d)
 
 -- the reaches after it
 abbrev pub nextAbove : ℕ → ℕ → Mark → Position → ℕ

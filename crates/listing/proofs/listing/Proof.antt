@@ -5,8 +5,7 @@ use Prim.Native.Nat.{ℕ, _≤_}
 use native.Mathlib.Omega.{arith}
 use lib.ListN.{length, take, length-take}
 use Rattle.listing.specs.inner.Lines.{Listing}
-use Rattle.listing.proofs.Append.{front-written}
-use Rattle.listing.proofs.Passes.{appended-is}
+use Rattle.listing.proofs.Append.{appended-is, front-written}
 use borrow.Author.Needs.{needs}
 use Rattle.listing.proofs.listing.Statement.{statement}
 use Rattle.listing.proofs.listing.Tie as tie
@@ -18,53 +17,42 @@ made-long m = m .next-is ∙ sym (ap length (m .stands))
 made-within : {job buffer : List ℕ} {next : ℕ} → Listing job buffer next → next ≤ length buffer
 made-within {buffer = buffer} {next = next} m = omega (arith, made-long m, length-take next buffer)
 
-slice-aggregate-put-listing : tie.Need-slice-aggregate-put-listing
-slice-aggregate-put-listing c = search needs
-
-put-listing-requires : tie.Need-put-listing-requires
-put-listing-requires c κs = search needs
+-- the text, from where it is to be put into the output
+abbrev made : tie.After-put-word-arg → tie.After-put-listing
+made c = c .before .before .before
 
 returns : tie.Need-returns
 returns c =
-    let made = c .before .before .put-listing .ensures in
+    let text = c .before .before .put-listing .ensures in
     record {
-      text = made .text;
-      text-of = made .text-of;
-      where-room = λ room. absurd (omega (arith, made .next-is));
+      text = text .text;
+      text-of = text .text-of;
+      where-room = λ room. absurd (omega (arith, text .next-is));
       where-short = λ short. (refl, refl, refl);
     }
 
 array-share-prefix-text : tie.Need-array-share-prefix-text
-array-share-prefix-text c = made-within (c .before .before .before .put-listing .ensures)
+array-share-prefix-text c = made-within (made c .put-listing .ensures)
 
 slice-aggregate-put-word : tie.Need-slice-aggregate-put-word
-slice-aggregate-put-word c = made-long (c .before .before .before .before .put-listing .ensures)
+slice-aggregate-put-word c = made-long (made (c .before) .put-listing .ensures)
 
 put-word-requires : tie.Need-put-word-requires
-put-word-requires c κs = omega (arith, made-long (c .before .before .before .before .put-listing .ensures))
-
-same-length : tie.Need-same-length
-same-length c = search needs
+put-word-requires c κs = omega (arith, made-long (made (c .before) .put-listing .ensures))
 
 returns-2 : tie.Need-returns-2
 returns-2 c =
-    let made = c .before .before .before .before .before .before .before .put-listing .ensures in
+    let put : tie.After-put-word = c .before .before in
+    let text = made (put .before .before) .put-listing .ensures in
     record {
-      text = made .text;
-      text-of = made .text-of;
-      where-room = λ room. (refl, made .next-is, front-written (appended-is (c .before .before .put-word .ensures) (made .stands)));
-      where-short = λ short. absurd (short (omega (arith, made .next-is)));
+      text = text .text;
+      text-of = text .text-of;
+      where-room = λ room. (refl, text .next-is, front-written (appended-is (put .put-word .ensures) (text .stands)));
+      where-short = λ short. absurd (short (omega (arith, text .next-is)));
     }
 
 pub listing-spec : {M : Type 1} → statement M
 listing-spec =
     tie.close
-    (tie.spec
-    slice-aggregate-put-listing
-    put-listing-requires
-    returns
-    array-share-prefix-text
-    slice-aggregate-put-word
-    put-word-requires
-    same-length
-    returns-2)
+    (tie.spec (λ c. search needs) (λ c κs. search needs) returns array-share-prefix-text slice-aggregate-put-word put-word-requires
+    (λ c. search needs) returns-2)

@@ -1,79 +1,73 @@
--- `listing::put_strip` meets its contract: the lines one behind the other.
-use mathlib.Core.Path.{ap}
-use mathlib.Core.List.{List}
-use Prim.Native.Nat.{ℕ}
+-- `listing::put_strip` meets its contract: the full line, and behind it the lines of a short strip or those of one that is too long.
 use native.Mathlib.Omega.{arith}
-use lib.IntN.{ℤ}
-use Rattle.listing.specs.Text.{slideLine}
-use Rattle.listing.proofs.Passes.{appended-is, accept-shorter}
-use Rattle.listing.proofs.Strips.{long-strip, short-strip}
+use Prim.Native.Nat.{ℕ}
+use lib.ListN.{length-replicate}
+use Rattle.geometry.specs.Strip.{Strip, strip, mostMarks, mostShort}
+use Rattle.geometry.proofs.Accepted.{Accepted, entry-accepted, accept-shorter}
+use Rattle.listing.proofs.StripText.{full-line, long-strip, short-strip}
 use borrow.Author.Needs.{needs}
 use Rattle.listing.proofs.put_strip.Statement.{statement}
 use Rattle.listing.proofs.put_strip.Tie as tie
 
--- from where the full line stands: the start and its strip
-abbrev start : tie.After-put-full → tie.Start
-start f = f .before .before .before .before .before
+-- the points of the code, each from a later one
+abbrev start : tie.After-fits2 → tie.Start
+start asked = let known : tie.After-slice-known = asked .before .before in known .before .before .before
 
-abbrev Z : tie.After-put-full → List ℤ
-Z f = start f .args .places .now
+abbrev asked : tie.After-put-full → tie.After-fits2
+asked line = let arg : tie.After-put-full-arg = line .before .before in arg .before .before
 
-abbrev L : tie.After-put-full → List ℕ
-L f = start f .args .lengths .now
+abbrev stripOf : tie.After-fits2 → Strip
+stripOf asked = strip (start asked .args .places .now) (start asked .args .lengths .now) (start asked .args .weights .now)
 
-abbrev W : tie.After-put-full → List ℕ
-W f = start f .args .weights .now
+good : (asked : tie.After-fits2) → Accepted mostMarks (stripOf asked)
+good asked = entry-accepted mostMarks (stripOf asked) (start asked .pre .strip)
 
 put-full-requires : tie.Need-put-full-requires
-put-full-requires c κs = search needs
+put-full-requires c κs =
+    let answered : tie.After-fits2 = c .before .before .before in (
+      omega (arith, good answered .few, answered .fits2 .kept .1 .1 .1 .0, length-replicate {A = ℕ} mostMarks 0),
+      omega (arith, good answered .few, start answered .pre .roomy),
+    )
 
 put-too-long-requires : tie.Need-put-too-long-requires
 put-too-long-requires c κs =
-    let f : tie.After-put-full = c .before .before .before .before in
-    let roomy = start f .pre .roomy in omega (arith, f .put-full .ensures .1, f .put-full .kept .1 .1 .1 .0)
-
-same-length : tie.Need-same-length
-same-length c = search needs
+    let text : tie.After-slice-known2 = c .before .before in
+    let line : tie.After-put-full = text .before .before in
+    let known = good (asked line) in
+    let roomy = start (asked line) .pre .roomy in
+    omega (arith, known .few, line .put-full .ensures .1, line .put-full .kept .0)
 
 returns : tie.Need-returns
 returns c =
-    let f : tie.After-put-full = c .before .before .before .before .before .before .before in long-strip (Z f) (L f) (W f) _ _ _ _ _ _ (c .before .before .before .before .if1 .taken) (f .put-full .ensures .0) (c .before .before .put-too-long .ensures)
+    let said : tie.After-put-too-long = c .before .before in
+    let long : tie.Then1 = said .before .before in
+    let line : tie.After-put-full = long .before .before .before in
+    let answer : tie.After-fits2 = asked line in
+    long-strip {s = stripOf answer} (long .if1 .taken)
+    (full-line (stripOf answer) (answer .fits2 .result) _ (answer .fits2 .ensures) (line .put-full .ensures .0)) (said .put-too-long .ensures)
 
-slides-requires : tie.Need-slides-requires
-slides-requires c κs = let f : tie.After-put-full = c .before .before .before in accept-shorter 60 (Z f) (L f) (W f) (start f .pre .strip) (c .if1 .left)
-
-put-slide-requires : tie.Need-put-slide-requires
-put-slide-requires c κs =
-    let f : tie.After-put-full = c .before .before .before .before .before in
-    let roomy = start f .pre .roomy in omega (arith, f .put-full .ensures .1, f .put-full .kept .1 .1 .1 .0)
-
-put-best-requires : tie.Need-put-best-requires
-put-best-requires c κs =
-    let f : tie.After-put-full = c .before .before .before .before .before .before .before .before .before in
-    let roomy = start f .pre .roomy in
+put-short-requires : tie.Need-put-short-requires
+put-short-requires c κs =
+    let short : tie.Else1 = c .before in
+    let line : tie.After-put-full = short .before .before .before in
+    let known = good (asked line) in
+    let roomy = start (asked line) .pre .roomy in
     record {
-      strip = accept-shorter 60 (Z f) (L f) (W f) (start f .pre .strip) (c .before .before .before .before .before .before .if1 .left);
-      roomy = omega (arith, c .before .before .before .put-slide .ensures .1, c .before .before .before .put-slide .kept .0, f .put-full .ensures .1, f .put-full .kept .1 .1 .1 .0);
+      strip = accept-shorter mostMarks mostShort (stripOf (asked line)) (start (asked line) .pre .strip) (short .if1 .left);
+      roomy = omega (arith, known .few, line .put-full .ensures .1, line .put-full .kept .0);
     }
-
-same-length-2 : tie.Need-same-length-2
-same-length-2 c = search needs
 
 returns-2 : tie.Need-returns-2
 returns-2 c =
-    let f : tie.After-put-full = c .before .before .before .before .before .before .before .before .before .before .before .before in
-    short-strip (Z f) (L f) (W f) _ _ _ _ _ _ _ _ (c .before .before .before .before .before .before .before .before .before .if1 .left) (f .put-full .ensures .0) (appended-is (c .before .before .before .before .before .before .put-slide .ensures .0) (ap slideLine (c .before .before .before .before .before .before .before .before .slides .ensures))) (c .before .before .put-best .ensures)
+    let said : tie.After-put-short = c .before .before in
+    let short : tie.Else1 = said .before .before in
+    let line : tie.After-put-full = short .before .before .before in
+    let answer : tie.After-fits2 = asked line in
+    short-strip {s = stripOf answer} (short .if1 .left)
+    (full-line (stripOf answer) (answer .fits2 .result) _ (answer .fits2 .ensures) (line .put-full .ensures .0)) (said .put-short .ensures)
 
 pub put-strip-spec : {M : Type 1} → statement M
 put-strip-spec =
     tie.close
-    (tie.spec
-    put-full-requires
-    put-too-long-requires
-    same-length
-    returns
-    slides-requires
-    put-slide-requires
-    put-best-requires
-    same-length-2
-    returns-2)
+    (tie.spec (λ c. search needs) (λ c κs. search needs) (λ c. search needs) put-full-requires put-too-long-requires (λ c. search needs)
+    returns put-short-requires (λ c. search needs) returns-2)

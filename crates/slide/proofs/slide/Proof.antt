@@ -1,26 +1,39 @@
 -- `slide::slide` meets its contract: a refusal by the checks stands, and else the answer past them.
-use mathlib.Core.Path.{_≡_, _∙_, ap}
+use mathlib.Core.Path.{_≡_, sym, _∙_, ap}
 use Prim.Native.Nat.{ℕ}
+use native.Mathlib.Omega.{arith}
 use lib.ListN.{length}
-use Rattle.geometry.specs.Refusal.{numberOf}
-use Rattle.geometry.specs.Pass.{passVerdict}
-use Rattle.slide.specs.SlidePass.{Lent, verdictOf}
-use Rattle.slide.proofs.Contract.{answer-ready, refused-right, answered-right}
 use borrow.Author.Needs.{needs}
+use Rattle.geometry.specs.Refusal.{accepted, numberOf}
+use Rattle.geometry.specs.Pass.{passVerdict}
+use Rattle.geometry.specs.Strip.{Strip, strip, mostShort}
+use Rattle.geometry.proofs.Verdicts.{zero-accepted}
+use Rattle.slide.specs.Slide.{SlideLent, slideLent, slideChecks, workNamed}
+use Rattle.slide.proofs.Contract.{answer-ready, refused-right, answered-right}
 use Rattle.slide.proofs.slide.Statement.{statement}
 use Rattle.slide.proofs.slide.Tie as tie
 
--- the start, its lent lists, and the number of the checks on them
+-- the start, from where the checks are made, with its strip and its lent lists
+abbrev asked : tie.After-check-pass → tie.After-slice-known
+asked c = c .before .before .before
+
 abbrev start : tie.After-check-pass → tie.Start
-start c = c .before .before .before .before .before .before
+start c = asked c .before .before .before
 
-abbrev lent : tie.After-check-pass → Lent
-lent c = record { sides = start c .args .sides .now; edges = start c .args .edges .now; work = start c .args .work .now }
+abbrev marks : tie.After-check-pass → Strip
+marks c = strip (start c .args .places .now) (start c .args .lengths .now) (start c .args .weights .now)
 
-number-is : (c : tie.After-check-pass) → c .check-pass .result ≡ numberOf (verdictOf (start c .args .places .now) (start c .args .lengths .now) (start c .args .weights .now) (lent c))
+abbrev lent : tie.After-check-pass → SlideLent
+lent c = slideLent (start c .args .sides .now) (start c .args .edges .now) (start c .args .work .now)
+
+-- and the lent lists afterwards
+abbrev lent-after : tie.After-answer → SlideLent
+lent-after c = slideLent (c .answer .last .1 .1 .0) (c .answer .last .1 .1 .1 .0) (c .answer .last .1 .1 .1 .1 .0)
+
+number-is : (c : tie.After-check-pass) → c .check-pass .result ≡ numberOf (slideChecks (marks c) (lent c))
 number-is c =
     c .check-pass .ensures
-    ∙ ap (λ (k : ℕ). numberOf (passVerdict 60 (start c .args .places .now) (start c .args .lengths .now) (start c .args .weights .now) k 30000 (length (start c .args .work .now)))) (c .before .smaller .ensures)
+    ∙ ap (λ (k : ℕ). numberOf (passVerdict mostShort (marks c) k workNamed (length (start c .args .work .now)))) (c .before .smaller .ensures)
 
 smaller-requires : tie.Need-smaller-requires
 smaller-requires c κs = search needs
@@ -29,10 +42,16 @@ check-pass-requires : tie.Need-check-pass-requires
 check-pass-requires c κs = search needs
 
 returns : tie.Need-returns
-returns c = refused-right _ _ _ (lent (c .before)) _ (number-is (c .before)) (c .if1 .taken)
+returns c = refused-right (marks (c .before)) (lent (c .before)) _ (omega (arith, number-is (c .before))) (omega arith)
+
+-- the number is 0 once the test is passed
+none-refused : (c : tie.Else1) → c .before .check-pass .result ≡ 0
+none-refused c = omega arith
 
 answer-requires : tie.Need-answer-requires
-answer-requires c κs = answer-ready _ _ _ (lent (c .before .before .before .before)) _ (number-is (c .before .before .before .before)) (c .before .before .before .if1 .left)
+answer-requires c κs =
+    let past : tie.Else1 = c .before .before .before in
+    answer-ready (marks (past .before)) (lent (past .before)) _ (number-is (past .before)) (none-refused past)
 
 same-length : tie.Need-same-length
 same-length c = search needs
@@ -45,8 +64,13 @@ same-length-3 c = search needs
 
 returns-2 : tie.Need-returns-2
 returns-2 c =
-    let checked : tie.After-check-pass = c .before .before .before .before .before .before .before .before .before .before in
-    answered-right _ _ _ (lent checked) _ _ _ (number-is checked) (c .before .before .before .before .before .before .before .before .before .if1 .left) (c .before .before .before .before .before .answer .ensures)
+    let edges-back : tie.After-edges = c .before .before in
+    let answered : tie.After-answer = edges-back .before .before .before in
+    let asked-answer : tie.After-answer-arg = answered .before .before .before in
+    let past : tie.Else1 = asked-answer .before in
+    let passed : slideChecks (marks (past .before)) (lent (past .before)) ≡ accepted =
+    zero-accepted (slideChecks (marks (past .before)) (lent (past .before))) (sym (number-is (past .before)) ∙ none-refused past) in
+    answered-right (marks (past .before)) (lent (past .before)) passed (lent-after answered) _ (answered .answer .ensures)
 
 pub slide-spec : {M : Type 1} → statement M
 slide-spec =

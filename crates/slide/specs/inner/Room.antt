@@ -1,10 +1,21 @@
 -- What the rest of the strip can still take: given the reach of one side, the greatest reach of the other.
-use Prim.Native.Nat.{ℕ, zero, suc, _+_, _-_, max}
+use Prim.Native.Nat.{ℕ, zero, suc, _+_, _-_, _≤_, _<_, max}
 use mathlib.Core.List.{List, [], _∷_}
 use mathlib.Core.Bool.{Bool, true, cond, _&&_, _||_}
 use lib.Dec.{leb, ltb}
-use Rattle.geometry.specs.Mark.{Mark}
+use Rattle.geometry.specs.Mark.{Mark, mostLength}
 use Rattle.geometry.specs.Sliding.{leftmostEdge}
+
+-- a bound that every reach meets: more than any dot that the label of an accepted mark may cover
+abbrev pub noBound : ℕ
+noBound = 65535
+
+-- the label of an accepted mark: a length in its range, and dots enough on either side of the place
+pub record GoodLabel (m : Mark) : Type 0 where
+  pub some : 1 ≤ m .labelLength
+  pub short : m .labelLength ≤ mostLength
+  pub left : m .labelLength < m .place
+  pub right : m .place + m .labelLength < noBound
 
 -- how far the label of m slides from its leftmost place on a side whose labels reach to t
 abbrev pub slidBy : Mark → ℕ → ℕ
@@ -24,10 +35,6 @@ slideable g a b [] = true
 slideable g a b (m ∷ ms) =
     (leb a (m .place) && slideable g (reachPast g m a) b ms) || (leb b (m .place) && slideable g a (reachPast g m b) ms)
 
--- a cell: 0 where no reach of the other side will do, else one more than the greatest that will; this number where every reach does
-abbrev pub noBound : ℕ
-noBound = 65535
-
 -- one more than the greatest d below n with t < f d, or 0
 unfoldable pub furthest : (ℕ → ℕ) → ℕ → ℕ → ℕ
 furthest f t zero = 0
@@ -45,7 +52,8 @@ otherSide m (suc d) = m .place - m .labelLength + suc d
 abbrev pub roomBefore : Mark → ℕ → (ℕ → ℕ) → ℕ
 roomBefore m t f = max (ownSide m t f) (otherSide m (furthest f t (suc (m .labelLength))))
 
--- the cell of a reach t of one side before the marks ms
+-- the cell of a reach t of one side before the marks ms: 0 where no reach of the other side will do, else one more than the greatest
+-- that will; noBound where every reach does
 unfoldable pub room : ℕ → ℕ → List Mark → ℕ
 room g t [] = noBound
 room g t (m ∷ ms) = roomBefore m t (λ d. room g (reachAt g m d) ms)

@@ -1,10 +1,21 @@
--- The table in the work area: a row of 241 cells for each mark, one for each number of dots by which its label may slide.
+-- The table in the work area: a row of cells for each mark, one for each number of dots by which its label may slide.
 use Prim.Native.Nat.{ℕ, _+_, _*_, _≤_, _<_}
 use mathlib.Core.Path.{_≡_}
 use mathlib.Core.List.{List, [], _∷_}
+use lib.IntN.{ℤ}
 use lib.ListN.{length, getD, drop}
-use Rattle.geometry.specs.Mark.{Mark}
-use Rattle.slide.specs.inner.Room.{reachAt, room}
+use Rattle.geometry.specs.Mark.{Mark, mostLength}
+use Rattle.slide.specs.Slide.{workNamed}
+use Rattle.slide.specs.inner.Plain.{plainMarks, Checked}
+use Rattle.slide.specs.inner.Room.{reachAt, roomBefore, room}
+
+-- the cells of a row: a label slides by 0 to 240 dots
+abbrev pub rowCells : ℕ
+rowCells = mostLength + 1
+
+-- there are so many rows from an index on
+abbrev pub RowsThere : List ℕ → ℕ → ℕ → Type 0
+RowsThere cells row n = row + n * rowCells ≤ length cells
 
 -- the cells of the row that starts at an index
 abbrev pub rowFrom : List ℕ → ℕ → ℕ → ℕ
@@ -13,8 +24,12 @@ rowFrom cells row d = getD cells (row + d) 0
 -- the first d cells of the row that starts at an index hold these values, and the rows behind it are as they were
 pub record FilledTo (old new : List ℕ) (row d : ℕ) (value : ℕ → ℕ) : Type 0 where
   pub cells : (e : ℕ) → e < d → rowFrom new row e ≡ value e
-  pub behind : drop (row + 241) new ≡ drop (row + 241) old
+  pub behind : drop (row + rowCells) new ≡ drop (row + rowCells) old
   pub same-length : length new ≡ length old
+
+-- the cells of a mark at a place, from the cells of the next mark
+abbrev pub rowBefore : ℕ → Mark → (ℕ → ℕ) → ℕ → ℕ
+rowBefore place next cells d = roomBefore next (place + d) cells
 
 -- the first cells are those of the mark m before the marks ms
 abbrev pub RowHolds : List ℕ → Mark → List Mark → Type 0
@@ -23,10 +38,21 @@ RowHolds cells m ms = (d : ℕ) → d ≤ m .labelLength → getD cells d 0 ≡ 
 -- the rows of all marks, one after the other
 abbrev pub TableHolds : List ℕ → List Mark → Type 0
 TableHolds cells [] = Unit {0}
-TableHolds cells (m ∷ ms) = RowHolds cells m ms × TableHolds (drop 241 cells) ms
+TableHolds cells (m ∷ ms) = RowHolds cells m ms × TableHolds (drop rowCells cells) ms
 
--- the rows of the marks from index k on are in the work area, and the part beyond the named one is as it was
+-- the rows of the marks from index k on
+abbrev pub RowsFrom : List ℕ → ℕ → List Mark → Type 0
+RowsFrom cells k ms = TableHolds (drop (k * rowCells) cells) (drop k ms)
+
+-- what the row of mark k asks: the rows behind it stand
+pub record RowReady (places : List ℤ) (lengths work : List ℕ) (k : ℕ) : Type 0 where
+  pub checked : Checked places lengths
+  pub within : k < length places
+  pub work-long : workNamed ≤ length work
+  pub behind : RowsFrom work (k + 1) (plainMarks places lengths)
+
+-- these rows are in the work area, and the part beyond the named one is as it was
 pub record TableFrom (old new : List ℕ) (k : ℕ) (ms : List Mark) : Type 0 where
-  pub table : TableHolds (drop (k * 241) new) (drop k ms)
-  pub beyond : drop 30000 new ≡ drop 30000 old
+  pub table : RowsFrom new k ms
+  pub beyond : drop workNamed new ≡ drop workNamed old
   pub same-length : length new ≡ length old

@@ -2,8 +2,8 @@
 use Prim.Native.Nat.{ℕ, _+_, _≤_, _<_}
 use mathlib.Core.Path.{_≡_}
 use mathlib.Core.List.{List, [], _∷_, map}
-use mathlib.Core.Bool.{Bool, true, false, cond, _&&_}
-use lib.Dec.{leb, ltb}
+use mathlib.Core.Bool.{Bool, true, false, cond}
+use lib.Dec.{ltb}
 use lib.IntN.{ℤ}
 use lib.ListN.{length}
 use Rattle.geometry.specs.Dot.{emptyReach}
@@ -11,13 +11,15 @@ use Rattle.geometry.specs.Mark.{Mark}
 use Rattle.geometry.specs.Position.{Side, above, below, sideCode, ownReach, aboveAfter, belowAfter}
 use Rattle.geometry.specs.Sliding.{leftmostEdge, leftmostEdges}
 use Rattle.geometry.specs.Pass.{written}
-use Rattle.slide.specs.inner.Plain.{plainMark, plainMarks, atDot, Checked}
-use Rattle.slide.specs.inner.Room.{slidBy, reachAt, reachPast, slideable, room}
-use Rattle.slide.specs.inner.Table.{TableHolds}
+use Rattle.geometry.specs.inner.Place.{placeOf}
+use Rattle.slide.specs.Slide.{SlideLent, workNamed}
+use Rattle.slide.specs.inner.Plain.{plainMarks, Checked}
+use Rattle.slide.specs.inner.Room.{GoodLabel, reachAt, reachPast, slideable, ownSide, room}
+use Rattle.slide.specs.inner.Table.{rowFrom, TableHolds}
 
 -- the label of m can lie above, from the reaches a and b, with these cells of m by how far it slides
 abbrev pub takesAbove : ℕ → ℕ → Mark → (ℕ → ℕ) → Bool
-takesAbove a b m f = leb a (m .place) && ltb b (f (slidBy m a))
+takesAbove a b m f = ltb b (ownSide m a f)
 
 -- above where the test holds, else below
 abbrev pub sideOf : Bool → Side
@@ -42,27 +44,31 @@ pub record LabelOn (s : Side) (m : Mark) (a b side edge aboveNext belowNext : �
   pub above-is : aboveNext ≡ aboveAfter s (reachPast 0 m (ownReach s a b)) a
   pub below-is : belowNext ≡ belowAfter s (reachPast 0 m (ownReach s a b)) b
 
--- what one step of the walk asks: the row is there, the label stays within the coordinates, and where above is not taken below is free
-pub record StepReady (cells : ℕ → ℕ) (most row p l a b : ℕ) : Type 0 where
-  pub row-there : row + l < most
-  pub short : l < p
-  pub high : p + l < 65536
-  pub one-free : takesAbove a b (plainMark p l) cells ≡ false → b ≤ p
+-- what one step of the walk asks of the row that starts at an index: it is there, the label stays within the coordinates, and where
+-- above is not taken below is free
+pub record StepReady (work : List ℕ) (row : ℕ) (m : Mark) (a b : ℕ) : Type 0 where
+  pub row-there : row + m .labelLength < length work
+  pub label : GoodLabel m
+  pub one-free : takesAbove a b m (rowFrom work row) ≡ false → b ≤ m .place
 
--- what the walk asks
-pub record WalkReady (zs : List ℤ) (ls work sides : List ℕ) (edges : List ℤ) : Type 0 where
-  pub checked : Checked zs ls
-  pub sides-long : length zs ≤ length sides
-  pub edges-long : length zs ≤ length edges
-  pub work-long : 14460 ≤ length work
-  pub table : TableHolds work (plainMarks zs ls)
-  pub fits : slideable 0 emptyReach emptyReach (plainMarks zs ls) ≡ true
+-- some sides let every label of a strip lie where it may
+abbrev pub fitsPlain : List ℤ → List ℕ → Bool
+fitsPlain places lengths = slideable 0 emptyReach emptyReach (plainMarks places lengths)
+
+-- what the walk asks of the lent lists, with the table in the work area
+pub record WalkReady (places : List ℤ) (lengths : List ℕ) (lent : SlideLent) : Type 0 where
+  pub checked : Checked places lengths
+  pub sides-long : length places ≤ length (lent .sides)
+  pub edges-long : length places ≤ length (lent .edges)
+  pub work-long : workNamed ≤ length (lent .work)
+  pub table : TableHolds (lent .work) (plainMarks places lengths)
+  pub fits : fitsPlain places lengths ≡ true
 
 -- the sides that the walk gives a strip
 abbrev pub walkSides : List ℤ → List ℕ → List Side
-walkSides zs ls = sidesFrom 0 emptyReach emptyReach (plainMarks zs ls)
+walkSides places lengths = sidesFrom 0 emptyReach emptyReach (plainMarks places lengths)
 
 -- what it leaves in the answer lists
-pub record Walked (zs : List ℤ) (ls oldSides newSides : List ℕ) (oldEdges newEdges : List ℤ) : Type 0 where
-  pub sides : newSides ≡ written (map sideCode (walkSides zs ls)) oldSides
-  pub edges : newEdges ≡ written (map atDot (leftmostEdges 0 (plainMarks zs ls) (walkSides zs ls))) oldEdges
+pub record Walked (places : List ℤ) (lengths : List ℕ) (entry exit : SlideLent) : Type 0 where
+  pub sides : exit .sides ≡ written (map sideCode (walkSides places lengths)) (entry .sides)
+  pub edges : exit .edges ≡ written (map placeOf (leftmostEdges 0 (plainMarks places lengths) (walkSides places lengths))) (entry .edges)

@@ -1,45 +1,50 @@
 -- `best::table::most` meets its contract: the greatest so far and what is left make the greatest of all.
-use mathlib.Core.Path.{_≡_, sym, _∙_, ap}
 use mathlib.Core.Bool.{Bool}
-use Prim.Native.Nat.{ℕ, _+_, _-_, _≤_, max}
-use native.Mathlib.Nat.{zero-max}
+use Prim.Native.Nat.{ℕ, _-_}
 use native.Mathlib.Omega.{arith}
+use lib.ListN.{length}
 use borrow.Author.Needs.{needs}
-use lib.ListN.{drop}
-use Rattle.geometry.specs.Lists.{greatestOf}
+use Rattle.geometry.specs.Strip.{Strip, strip}
 use Rattle.geometry.specs.Position.{Position, everyPosition}
-use Rattle.best.specs.inner.Names.{positionOf}
-use Rattle.best.specs.inner.Table.{roomAt, gainAt}
-use Rattle.best.proofs.Trials.{greater-step, greatest-ends}
+use Rattle.best.specs.inner.Positions.{positionOf}
+use Rattle.best.specs.inner.Trial.{roomAt, gainAt}
+use Rattle.best.proofs.TrialsInTurn.{GreatestSoFar, greatest-starts, greatest-on, greatest-ends}
 use borrow.Author.Needs.{needs}
 use Rattle.best.proofs.table.most.Statement.{statement}
 use Rattle.best.proofs.table.most.Tie as tie
 
 abbrev Inv-loop : tie.InvT-loop
 Inv-loop places lengths weights reaches work k above below best₀ i₀ best i =
-    (i ≤ 5) × (max best (greatestOf (roomAt 0 places lengths weights k above below) (gainAt weights work k above below) (drop i everyPosition)) ≡ greatestOf (roomAt 0 places lengths weights k above below) (gainAt weights work k above below) everyPosition)
+    GreatestSoFar (roomAt 0 (strip places lengths weights) k above below) (gainAt weights work k above below) best i
 
 abbrev μ-loop : tie.MeasureT-loop
-μ-loop places lengths weights reaches work k above below best₀ i₀ best i = 5 - i
+μ-loop places lengths weights reaches work k above below best₀ i₀ best i = length everyPosition - i
 
--- room and gain beside the last labels that were passed
+-- what was passed
+abbrev start : tie.After-shared-slice-known4 Inv-loop μ-loop → tie.Start Inv-loop μ-loop
+start c = let lists = c .before .before in lists .before .before
+
+abbrev marks : tie.Start Inv-loop μ-loop → Strip
+marks a = strip (a .args .places .now) (a .args .lengths .now) (a .args .weights .now)
+
+-- room and gain beside the last labels
 abbrev room : tie.Start Inv-loop μ-loop → Position → Bool
-room a p = roomAt 0 (a .args .places .now) (a .args .lengths .now) (a .args .weights .now) (a .args .k) (a .args .above) (a .args .below) p
+room a p = roomAt 0 (marks a) (a .args .k) (a .args .above) (a .args .below) p
 
 abbrev gained : tie.Start Inv-loop μ-loop → Position → ℕ
 gained a p = gainAt (a .args .weights .now) (a .args .work .now) (a .args .k) (a .args .above) (a .args .below) p
 
 loop-holds : tie.Need-loop-holds Inv-loop μ-loop
-loop-holds c = (omega arith, zero-max _)
+loop-holds c = greatest-starts (room (start c)) (gained (start c))
 
 position-at-requires : tie.Need-position-at-requires Inv-loop μ-loop
 position-at-requires c κs = search needs
 
 offer-requires : tie.Need-offer-requires Inv-loop μ-loop
-offer-requires c κs = c .before .before .before .before .before .before .pre
+offer-requires c κs = start (c .before .before .before) .pre
 
-larger-requires : tie.Need-larger-requires Inv-loop μ-loop
-larger-requires c κs = search needs
+larger-u32-requires : tie.Need-larger-u32-requires Inv-loop μ-loop
+larger-u32-requires c κs = search needs
 
 add-i : tie.Need-add-i Inv-loop μ-loop
 add-i c = omega arith
@@ -49,15 +54,16 @@ loop-less c = omega arith
 
 loop-again : tie.Need-loop-again Inv-loop μ-loop
 loop-again c =
-    let a = c .before .before .before .before .before .before .before .before in (
-      omega arith,
-      ap (λ (n : ℕ). max n (greatestOf (room a) (gained a) (drop (c .before .before .before .before .loop .i + 1) everyPosition))) (c .larger .ensures)
-          ∙ greater-step (room a) (gained a) (c .before .before .before .before .loop .i) (c .before .before .before .before .loop .best) (c .before .offer .result) (positionOf (c .before .before .position-at .result)) (omega arith) (c .before .before .position-at .ensures) (c .before .offer .ensures)
-          ∙ c .before .before .before .before .loop .inv .1,
-    )
+    let tried = c .before .before in
+    let loop = tried .before .before in
+    let a = start (loop .before) in
+    rw (c .larger-u32 .ensures)
+    (greatest-on (room a) (gained a) (loop .loop .i) (loop .loop .best) (c .before .offer .result) (positionOf (tried .position-at .result))
+    (loop .loop .inv) (omega arith) (tried .position-at .ensures) (c .before .offer .ensures))
 
 returns : tie.Need-returns Inv-loop μ-loop
-returns c = let a = c .before .before .before .before .before in sym (greatest-ends (room a) (gained a) (c .before .loop .i) (c .before .loop .best) (omega arith)) ∙ c .before .loop .inv .1
+returns c = let a = start (c .before .before) in greatest-ends (room a) (gained a) (c .before .loop .i) (c .before .loop .best) (c .before .loop .inv)
+    (omega arith)
 
 pub most-spec : {M : Type 1} → statement M
 most-spec =
@@ -68,7 +74,7 @@ most-spec =
     loop-holds
     position-at-requires
     offer-requires
-    larger-requires
+    larger-u32-requires
     add-i
     loop-less
     loop-again

@@ -1,22 +1,32 @@
 -- `best::table::renew_row` meets its contract: the cells of the row before `below` count mark k, and those beyond need no change.
 use mathlib.Core.Path.{_≡_, refl, _∙_}
-use Prim.Native.Nat.{_+_, _-_, _*_, _≤_}
+use Prim.Native.Nat.{_-_, _≤_}
 use native.Mathlib.Omega.{arith}
-use lib.ListN.{length, drop}
-use Rattle.best.specs.inner.Table.{Partly}
-use Rattle.best.proofs.Cells.{ready-again}
-use Rattle.best.proofs.Renewal.{skip-rest, at-bound}
+use lib.ListN.{length}
+use Rattle.geometry.specs.Strip.{Strip, strip}
+use Rattle.best.specs.inner.Names.{namesBefore}
+use Rattle.best.specs.inner.Table.{cellOf, Renewed}
+use Rattle.best.proofs.TableRenewed.{skip-rest}
+use Rattle.best.proofs.RenewedInParts.{renewed-none, renewed-so-far, renewed-more}
 use Rattle.best.proofs.table.renew_row.Statement.{statement}
 use Rattle.best.proofs.table.renew_row.Tie as tie
 
 abbrev Inv-loop : tie.InvT-loop
-Inv-loop places lengths weights reaches work₀ k above below₀ work below = (below ≤ 2 * k + 2) × (length work ≡ length work₀) × Partly 0 places lengths weights k (above * 122 + below) work × (drop 15000 work ≡ drop 15000 work₀)
+Inv-loop places lengths weights reaches work₀ k above below₀ work below =
+    (below ≤ namesBefore k) × (length work ≡ length work₀) × Renewed (strip places lengths weights) k (cellOf above below) work₀ work
 
 abbrev μ-loop : tie.MeasureT-loop
-μ-loop places lengths weights reaches work₀ k above below₀ work below = 2 * k + 2 - below
+μ-loop places lengths weights reaches work₀ k above below₀ work below = namesBefore k - below
+
+-- what was passed
+abbrev start : tie.After-slice-known Inv-loop μ-loop → tie.Start Inv-loop μ-loop
+start c = let lists = c .before .before in lists .before .before
+
+abbrev marks : tie.Start Inv-loop μ-loop → Strip
+marks a = strip (a .args .places .now) (a .args .lengths .now) (a .args .weights .now)
 
 loop-holds : tie.Need-loop-holds Inv-loop μ-loop
-loop-holds c = (omega arith, refl, at-bound 0 _ _ _ _ _ _ _ (omega arith) (c .before .before .before .pre .1 .1 .1), refl)
+loop-holds c = let a = start c in (omega arith, refl, renewed-none (marks a) (a .args .k) _ _ _ _ (omega arith) (a .pre .0))
 
 mul-loop : tie.Need-mul-loop Inv-loop μ-loop
 mul-loop c = omega arith
@@ -26,9 +36,10 @@ add-loop c = omega arith
 
 renew-cell-requires : tie.Need-renew-cell-requires Inv-loop μ-loop
 renew-cell-requires c κs =
-    let a = c .before .before .before .before .before .before in
-    let h = c .before .before .loop .inv in
-    (ready-again (a .args .work .now) (c .before .before .loop .work) (a .pre .0) (h .1), (a .pre .1 .0, (omega arith, h .2)))
+    let loop = c .before .before in
+    let a = start (loop .before) in
+    let so-far = renewed-so-far (marks a) (a .args .k) _ _ (loop .loop .work) _ _ (a .pre .0) (loop .loop .inv .1) (loop .loop .inv .2) in
+    (so-far, (a .pre .1, omega arith))
 
 add-below : tie.Need-add-below Inv-loop μ-loop
 add-below c = omega arith
@@ -38,17 +49,25 @@ loop-less c = omega arith
 
 loop-again : tie.Need-loop-again Inv-loop μ-loop
 loop-again c =
-    let h = c .before .before .before .before .before .loop .inv in
-    let last = c .before .before .renew-cell in
-    (omega arith, last .kept .1 .1 .1 .1 .0 ∙ h .1, at-bound 0 _ _ _ _ _ _ _ (omega arith) (last .ensures .0), last .ensures .1 ∙ h .3)
+    let called = c .before .before in
+    let loop = called .before .before .before in
+    let a = start (loop .before) in
+    let part = called .renew-cell in (
+      omega arith,
+      part .kept .1 .1 .1 .1 .0 ∙ loop .loop .inv .1,
+      renewed-more (marks a) (a .args .k) _ (loop .loop .work) _ _ _ _ (omega arith) (loop .loop .inv .2) (part .ensures),
+    )
 
 same-length : tie.Need-same-length Inv-loop μ-loop
 same-length c = c .before .loop .inv .1
 
 returns : tie.Need-returns Inv-loop μ-loop
 returns c =
-    let h = c .before .loop .inv in
-    (skip-rest 0 _ _ _ _ _ (c .before .loop .below) _ (omega arith) (omega arith) (h .2), h .3)
+    let loop = c .before .loop in
+    let a = start (c .before .before) in
+    let done = loop .inv .2 in
+    let row = skip-rest 0 (marks a) (a .args .k) (loop .work) (a .args .above) (loop .below) (omega arith) (omega arith) (done .partly) in
+    record { partly = row; rest-kept = done .rest-kept }
 
 pub renew-row-spec : {M : Type 1} → statement M
 renew-row-spec =

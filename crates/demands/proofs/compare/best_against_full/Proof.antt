@@ -1,114 +1,83 @@
 -- `demands::compare::best_against_full` meets its contract: each return is what the contracts of the two passes say together.
-use Rattle.demands.proofs.BothPasses.{best-refuses, full-refuses, full-fits, full-finds-none}
+use native.Mathlib.Omega.{arith}
 use borrow.Author.Needs.{needs}
+use Rattle.geometry.specs.Strip.{Strip, strip}
+use Rattle.full.specs.Full.{FullLent, fullLent}
+use Rattle.best.specs.Best.{BestLent, bestLent}
+use Rattle.demands.proofs.Comparison.{BothRan, best-refuses, full-refuses, full-fits, full-finds-none}
 use Rattle.demands.proofs.compare.best_against_full.Statement.{statement}
 use Rattle.demands.proofs.compare.best_against_full.Tie as tie
 
-full-requires : tie.Need-full-requires
-full-requires c κs = search needs
+-- the two calls, from where the best pass's number is looked at, and the entry
+abbrev best-called : tie.After-struct-known → tie.After-best
+best-called looked = let work = looked .before .before in let out = work .before .before in out .before .before .before
 
-best-requires : tie.Need-best-requires
-best-requires c κs = search needs
+abbrev full-called : tie.After-best → tie.After-full
+full-called best = let lent = best .before .before .before in let work = lent .before in work .before .before .before
 
-same-length : tie.Need-same-length
-same-length c = search needs
+abbrev start : tie.After-full → tie.Start
+start full = let known = full .before .before .before in let shared = known .before .before .before in shared .before .before .before
 
-same-length-2 : tie.Need-same-length-2
-same-length-2 c = search needs
+abbrev marks : tie.After-full → Strip
+marks full = strip (start full .args .places .now) (start full .args .lengths .now) (start full .args .weights .now)
 
-same-length-3 : tie.Need-same-length-3
-same-length-3 c = search needs
+-- the lists lent to each pass, at entry and at exit
+abbrev full-entry : tie.After-full → FullLent
+full-entry full = fullLent (start full .args .full-positions .now) (start full .args .full-work .now)
 
-same-length-4 : tie.Need-same-length-4
-same-length-4 c = search needs
+abbrev full-exit : tie.After-full → FullLent
+full-exit full = let last = full .full .last in fullLent (last .1 .1 .1 .0) (last .1 .1 .1 .1 .0)
 
-same-length-5 : tie.Need-same-length-5
-same-length-5 c = search needs
+abbrev best-entry : tie.After-full → BestLent
+best-entry full = bestLent (start full .args .best-positions .now) (start full .args .left-out .now) (start full .args .best-work .now)
+
+abbrev best-exit : tie.After-best → BestLent
+best-exit best = let last = best .best .last in bestLent (last .1 .1 .1 .0) (last .1 .1 .1 .1 .0) (last .1 .1 .1 .1 .1 .0)
+
+both-ran : (best : tie.After-best)
+    → let full = full-called best in
+    BothRan (marks full) (full-entry full) (full-exit full) (full .full .result) (best-entry full) (best-exit best) (best .best .result)
+both-ran best = record { full-ran = full-called best .full .ensures; best-ran = best .best .ensures }
 
 returns : tie.Need-returns
-returns c = best-refuses _ _ _ _ _ _ _ _ _ _ _ (c .before .before .before .before .before .before .before .before .before .before .before .before .before .before .before .full .ensures) (c .before .before .before .before .before .before .before .before .best .ensures) (c .if1 .taken)
-
-same-length-6 : tie.Need-same-length-6
-same-length-6 c = search needs
-
-same-length-7 : tie.Need-same-length-7
-same-length-7 c = search needs
-
-same-length-8 : tie.Need-same-length-8
-same-length-8 c = search needs
-
-same-length-9 : tie.Need-same-length-9
-same-length-9 c = search needs
-
-same-length-10 : tie.Need-same-length-10
-same-length-10 c = search needs
+returns c = best-refuses (both-ran (best-called (c .before))) (λ zero. omega arith)
 
 returns-2 : tie.Need-returns-2
-returns-2 c = full-fits _ _ _ _ _ _ _ _ _ _ _ (c .before .before .before .before .before .before .before .before .before .before .before .before .before .before .before .before .full .ensures) (c .before .before .before .before .before .before .before .before .before .best .ensures) (c .before .if1 .left) (c .if2 .taken)
-
-same-length-11 : tie.Need-same-length-11
-same-length-11 c = search needs
-
-same-length-12 : tie.Need-same-length-12
-same-length-12 c = search needs
-
-same-length-13 : tie.Need-same-length-13
-same-length-13 c = search needs
-
-same-length-14 : tie.Need-same-length-14
-same-length-14 c = search needs
-
-same-length-15 : tie.Need-same-length-15
-same-length-15 c = search needs
+returns-2 c = let passed = c .before in full-fits (both-ran (best-called (passed .before))) (omega arith) (omega arith)
 
 returns-3 : tie.Need-returns-3
-returns-3 c = full-finds-none _ _ _ _ _ _ _ _ _ _ _ (c .before .before .before .before .before .before .before .before .before .before .before .before .before .before .before .before .before .full .ensures) (c .before .before .before .before .before .before .before .before .before .before .best .ensures) (c .before .before .if1 .left) (c .if3 .taken)
-
-same-length-16 : tie.Need-same-length-16
-same-length-16 c = search needs
-
-same-length-17 : tie.Need-same-length-17
-same-length-17 c = search needs
-
-same-length-18 : tie.Need-same-length-18
-same-length-18 c = search needs
-
-same-length-19 : tie.Need-same-length-19
-same-length-19 c = search needs
-
-same-length-20 : tie.Need-same-length-20
-same-length-20 c = search needs
+returns-3 c = let passed = c .before .before in full-finds-none (both-ran (best-called (passed .before))) (omega arith) (omega arith)
 
 returns-4 : tie.Need-returns-4
-returns-4 c = full-refuses _ _ _ _ _ _ _ _ _ _ _ (c .before .before .before .before .before .before .before .before .before .before .before .before .before .before .before .before .before .full .ensures) (c .before .before .before .before .before .before .before .before .before .before .best .ensures) (c .before .if2 .left) (c .if3 .left)
+returns-4 c = let not-zero = c .before in full-refuses (both-ran (best-called (not-zero .before .before))) (λ zero. omega arith) (λ eleven. omega arith)
 
 pub best-against-full-spec : {M : Type 1} → statement M
 best-against-full-spec =
     tie.close
     (tie.spec
-    full-requires
-    best-requires
-    same-length
-    same-length-2
-    same-length-3
-    same-length-4
-    same-length-5
+    (λ c κs. search needs)
+    (λ c κs. search needs)
+    (λ c. search needs)
+    (λ c. search needs)
+    (λ c. search needs)
+    (λ c. search needs)
+    (λ c. search needs)
     returns
-    same-length-6
-    same-length-7
-    same-length-8
-    same-length-9
-    same-length-10
+    (λ c. search needs)
+    (λ c. search needs)
+    (λ c. search needs)
+    (λ c. search needs)
+    (λ c. search needs)
     returns-2
-    same-length-11
-    same-length-12
-    same-length-13
-    same-length-14
-    same-length-15
+    (λ c. search needs)
+    (λ c. search needs)
+    (λ c. search needs)
+    (λ c. search needs)
+    (λ c. search needs)
     returns-3
-    same-length-16
-    same-length-17
-    same-length-18
-    same-length-19
-    same-length-20
+    (λ c. search needs)
+    (λ c. search needs)
+    (λ c. search needs)
+    (λ c. search needs)
+    (λ c. search needs)
     returns-4)

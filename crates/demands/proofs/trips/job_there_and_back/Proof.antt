@@ -1,83 +1,80 @@
 -- `demands::trips::job_there_and_back` meets its contract: what the reader found is what the writer writes back.
 use mathlib.Core.Path.{sym}
-use Prim.Native.Nat.{min}
 use native.Mathlib.Omega.{arith}
-use lib.ListN.{length}
 use lib.Seq.{length-take-le}
-use Rattle.demands.proofs.RoundTrips.{ReadMarks, read-marks, reader-refuses, same-job-back}
 use borrow.Author.Needs.{needs}
+use Rattle.geometry.specs.Strip.{Strip, strip}
+use Rattle.job.specs.Number.{Bytes}
+use Rattle.job.proofs.ReadStrip.{ReadStrip, read-strip}
+use Rattle.demands.proofs.ThereAndBack.{reader-refuses, reader-accepts}
 use Rattle.demands.proofs.trips.job_there_and_back.Statement.{statement}
 use Rattle.demands.proofs.trips.job_there_and_back.Tie as tie
 
--- the marks of a job that was accepted
-abbrev at-read : tie.Else1 → tie.After-read
-at-read e = e .before .before .before .before .before .before .before
+-- the read call and the entry, from where its number is looked at
+abbrev read-ran : tie.After-struct-known → tie.After-read
+read-ran looked = let weights = looked .before .before in let lengths = weights .before .before in lengths .before .before
 
-abbrev entered : tie.Else1 → tie.Start
-entered e = e .before .before .before .before .before .before .before .before .before .before .before .before .before .before .before
+abbrev entered : tie.After-read → tie.After-shared-slice-known
+entered ran = let lent = ran .before .before .before in let known = lent .before .before in known .before .before
 
-marks-of : (e : tie.Else1) → ReadMarks (min (length (entered e .args .places .now)) (min (length (entered e .args .lengths .now)) (length (entered e .args .weights .now)))) (entered e .args .job .now) (at-read e .read .result .count) (at-read e .read .last .1 .0) (at-read e .read .last .1 .1 .0) (at-read e .read .last .1 .1 .1 .0)
-marks-of e = read-marks _ _ _ _ _ (at-read e .read .result) _ _ _ (λ i. e .before .before .before .before .before .before .before .before .before .before .before .before .before .before .shared-slice-known .given i .fits) (at-read e .read .ensures) (e .if1 .left)
+abbrev start : tie.After-read → tie.Start
+start ran = entered ran .before
 
-read-requires : tie.Need-read-requires
-read-requires c κs = search needs
+-- each element of a slice of bytes is a byte
+bytes : (ran : tie.After-read) → Bytes (start ran .args .job .now)
+bytes ran i = entered ran .shared-slice-known .given i .fits
 
-same-length : tie.Need-same-length
-same-length c = search needs
+-- the three lent lists at entry, and after the call
+abbrev lent : tie.After-read → Strip
+lent ran = strip (start ran .args .places .now) (start ran .args .lengths .now) (start ran .args .weights .now)
 
-same-length-2 : tie.Need-same-length-2
-same-length-2 c = search needs
+abbrev filled : tie.After-read → Strip
+filled ran = strip (ran .read .last .1 .0) (ran .read .last .1 .1 .0) (ran .read .last .1 .1 .1 .0)
 
-same-length-3 : tie.Need-same-length-3
-same-length-3 c = search needs
+-- the strip of a job that was accepted
+found : (c : tie.Else1)
+    → let ran = read-ran (c .before) in ReadStrip (start ran .args .job .now) (lent ran) (filled ran) (ran .read .result)
+found c =
+    let ran = read-ran (c .before) in
+    read-strip (start ran .args .job .now) (lent ran) (filled ran) (ran .read .result) (bytes ran) (ran .read .ensures) (omega arith)
 
 returns : tie.Need-returns
-returns c = reader-refuses _ _ _ _ _ (c .before .before .before .before .before .before .before .read .result) _ _ _ (c .before .before .before .before .before .before .before .read .ensures) (c .if1 .taken)
+returns c = let ran = read-ran (c .before) in reader-refuses (ran .read .result) (ran .read .ensures) (λ zero. omega arith)
 
 slice-reshare-prefix-write : tie.Need-slice-reshare-prefix-write
-slice-reshare-prefix-write c = omega (arith, marks-of c .places-within)
+slice-reshare-prefix-write c = omega (arith, found c .within)
 
 slice-aggregate-write : tie.Need-slice-aggregate-write
-slice-aggregate-write c = sym (length-take-le _ _ (omega (arith, marks-of (c .before) .places-within)))
+slice-aggregate-write c = sym (length-take-le _ _ (omega (arith, found (c .before) .within)))
 
 slice-reshare-prefix-write-2 : tie.Need-slice-reshare-prefix-write-2
-slice-reshare-prefix-write-2 c = omega (arith, marks-of (c .before) .lengths-within)
+slice-reshare-prefix-write-2 c = omega (arith, found (c .before) .within)
 
 slice-aggregate-write-2 : tie.Need-slice-aggregate-write-2
-slice-aggregate-write-2 c = sym (length-take-le _ _ (omega (arith, marks-of (c .before .before) .lengths-within)))
+slice-aggregate-write-2 c = sym (length-take-le _ _ (omega (arith, found (c .before .before) .within)))
 
 slice-reshare-prefix-write-3 : tie.Need-slice-reshare-prefix-write-3
-slice-reshare-prefix-write-3 c = omega (arith, marks-of (c .before .before) .weights-within)
+slice-reshare-prefix-write-3 c = omega (arith, found (c .before .before) .within)
 
 slice-aggregate-write-3 : tie.Need-slice-aggregate-write-3
-slice-aggregate-write-3 c = sym (length-take-le _ _ (omega (arith, marks-of (c .before .before .before) .weights-within)))
-
-write-requires : tie.Need-write-requires
-write-requires c κs = search needs
-
-same-length-4 : tie.Need-same-length-4
-same-length-4 c = search needs
-
-same-length-5 : tie.Need-same-length-5
-same-length-5 c = search needs
-
-same-length-6 : tie.Need-same-length-6
-same-length-6 c = search needs
-
-same-length-7 : tie.Need-same-length-7
-same-length-7 c = search needs
+slice-aggregate-write-3 c = sym (length-take-le _ _ (omega (arith, found (c .before .before .before) .within)))
 
 returns-2 : tie.Need-returns-2
-returns-2 c = same-job-back _ _ _ _ _ (c .before .before .before .before .before .before .before .before .before .before .before .before .before .before .read .result) _ _ _ (c .before .before .before .before .before .before .before .before .before .before .before .before .before .before .read .ensures) (c .before .before .write .result) _ (λ i. c .before .before .before .before .before .before .before .before .before .before .before .before .before .before .before .before .before .before .before .before .before .shared-slice-known .given i .fits) (c .before .before .before .before .before .before .before .if1 .left) (c .before .before .write .ensures)
+returns-2 c =
+    let made = c .before .before in
+    let parts = made .before .before in
+    let accepted = parts .before .before .before in
+    let ran = read-ran (accepted .before) in
+    reader-accepts {left = filled ran} (ran .read .result) (ran .read .ensures) (made .write .result) (bytes ran) (omega arith) (made .write .ensures)
 
 pub job-there-and-back-spec : {M : Type 1} → statement M
 job-there-and-back-spec =
     tie.close
     (tie.spec
-    read-requires
-    same-length
-    same-length-2
-    same-length-3
+    (λ c κs. search needs)
+    (λ c. search needs)
+    (λ c. search needs)
+    (λ c. search needs)
     returns
     slice-reshare-prefix-write
     slice-aggregate-write
@@ -85,9 +82,9 @@ job-there-and-back-spec =
     slice-aggregate-write-2
     slice-reshare-prefix-write-3
     slice-aggregate-write-3
-    write-requires
-    same-length-4
-    same-length-5
-    same-length-6
-    same-length-7
+    (λ c κs. search needs)
+    (λ c. search needs)
+    (λ c. search needs)
+    (λ c. search needs)
+    (λ c. search needs)
     returns-2)

@@ -1,94 +1,90 @@
--- `full::kept::greatest` meets its contract: each call says what it gives, and a number that went through 16 bits is itself.
-use mathlib.Core.Path.{refl}
+-- `full::kept::greatest` meets its contract: each call says what it gives, a number that went through 16 bits is itself, and the
+-- candidates are those of the first test that is passed.
+use mathlib.Core.Path.{sym}
 use borrow.Author.Needs.{needs}
+use Rattle.geometry.specs.Dot.{dot}
 use Rattle.geometry.proofs.Dots.{back, fetched}
+use Rattle.full.proofs.Candidates.{candidates-by-test}
 use Rattle.full.proofs.kept.greatest.Statement.{statement}
 use Rattle.full.proofs.kept.greatest.Tie as tie
-
-at-most-requires : tie.Need-at-most-requires
-at-most-requires c κs = search needs
-
-allowed-requires : tie.Need-allowed-requires
-allowed-requires c κs = search needs
-
-at-most-requires-2 : tie.Need-at-most-requires-2
-at-most-requires-2 c κs = search needs
-
-allowed-requires-2 : tie.Need-allowed-requires-2
-allowed-requires-2 c κs = search needs
-
-at-most-requires-3 : tie.Need-at-most-requires-3
-at-most-requires-3 c κs = search needs
-
-allowed-requires-3 : tie.Need-allowed-requires-3
-allowed-requires-3 c κs = search needs
-
-at-most-requires-4 : tie.Need-at-most-requires-4
-at-most-requires-4 c κs = search needs
-
-allowed-requires-4 : tie.Need-allowed-requires-4
-allowed-requires-4 c κs = search needs
 
 larger-requires : tie.Need-larger-requires
 larger-requires c κs = search needs
 
+at-most-requires : tie.Need-at-most-requires
+at-most-requires c κs = search needs
+
+if-passed-requires : tie.Need-if-passed-requires
+if-passed-requires c κs = search needs
+
+at-most-requires-2 : tie.Need-at-most-requires-2
+at-most-requires-2 c κs = search needs
+
+if-passed-requires-2 : tie.Need-if-passed-requires-2
+if-passed-requires-2 c κs = search needs
+
+at-most-requires-3 : tie.Need-at-most-requires-3
+at-most-requires-3 c κs = search needs
+
+if-passed-requires-3 : tie.Need-if-passed-requires-3
+if-passed-requires-3 c κs = search needs
+
+at-most-requires-4 : tie.Need-at-most-requires-4
+at-most-requires-4 c κs = search needs
+
+if-passed-requires-4 : tie.Need-if-passed-requires-4
+if-passed-requires-4 c κs = search needs
+
 larger-requires-2 : tie.Need-larger-requires-2
 larger-requires-2 c κs = search needs
 
-larger-requires-3 : tie.Need-larger-requires-3
-larger-requires-3 c κs = search needs
-
 returns : tie.Need-returns
 returns c =
-    let held = c .before .before .before .before .before .before .before .before .before .before .before .fits in
-    let left-here = c .before .before .before .before .before .before .before .before .before .allowed in
-    let right-here = c .before .before .before .before .before .before .before .allowed2 in
-    let left-there = c .before .before .before .before .before .allowed3 in
-    let right-there = c .before .before .before .allowed4 in
-    let here = c .before .before .larger in
-    let there = c .before .larger2 in
+    let there = c .before in
+    let left-there = there .before .before in
+    let here = left-there .before .before in
+    let right-here = here .before .before in
+    let either = right-here .before .before in
+    let start = either .before in
+    let args = start .args in
+    let held = start .fits in
     rw (
-      fetched (c .larger3 .result) (c .larger3 .ok),
-      c .larger3 .ensures,
-      fetched (here .result) (here .ok),
-      fetched (there .result) (there .ok),
-      here .ensures,
-      there .ensures,
-      fetched (left-here .result) (left-here .ok),
-      fetched (right-here .result) (right-here .ok),
-      fetched (left-there .result) (left-there .ok),
-      fetched (right-there .result) (right-there .ok),
-      left-here .ensures,
-      right-here .ensures,
-      left-there .ensures,
-      right-there .ensures,
-      c .before .before .before .before .before .before .before .before .before .before .at-most .ensures,
-      c .before .before .before .before .before .before .before .before .at-most2 .ensures,
-      c .before .before .before .before .before .before .at-most3 .ensures,
-      c .before .before .before .before .at-most4 .ensures,
+      fetched (c .larger2 .result) (c .larger2 .ok),
+      c .larger2 .ensures,
+      fetched (here .if-passed2 .result) (here .if-passed2 .ok),
+      fetched (there .if-passed4 .result) (there .if-passed4 .ok),
+      here .if-passed2 .ensures,
+      there .if-passed4 .ensures,
+      fetched (right-here .if-passed .result) (right-here .if-passed .ok),
+      fetched (left-there .if-passed3 .result) (left-there .if-passed3 .ok),
+      right-here .if-passed .ensures,
+      left-there .if-passed3 .ensures,
+      fetched (either .larger .result) (either .larger .ok),
+      either .larger .ensures,
+      right-here .before .at-most .ensures,
+      here .before .at-most2 .ensures,
+      left-there .before .at-most3 .ensures,
+      there .before .at-most4 .ensures,
       back (held .reach),
       back (held .left),
       back (held .place),
-      back (held .own-left),
-      back (held .own-right),
-      back (held .other-left),
-      back (held .other-right),
+      back (held .kept-left),
+      back (held .kept-right),
     )
-    refl
+    (sym (candidates-by-test (dot (args .reach)) (dot (args .left)) (dot (args .place)) (dot (args .kept-left)) (dot (args .kept-right)) (start .pre)))
 
 pub greatest-spec : {M : Type 1} → statement M
 greatest-spec =
     tie.close
     (tie.spec
-    at-most-requires
-    allowed-requires
-    at-most-requires-2
-    allowed-requires-2
-    at-most-requires-3
-    allowed-requires-3
-    at-most-requires-4
-    allowed-requires-4
     larger-requires
+    at-most-requires
+    if-passed-requires
+    at-most-requires-2
+    if-passed-requires-2
+    at-most-requires-3
+    if-passed-requires-3
+    at-most-requires-4
+    if-passed-requires-4
     larger-requires-2
-    larger-requires-3
     returns)

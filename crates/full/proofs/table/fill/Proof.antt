@@ -1,18 +1,22 @@
 -- `full::table::fill` meets its contract: after each turn the rows from the current mark on are right, and `next` is the current
 -- mark's. The measure is the current mark's index.
 use mathlib.Core.Path.{_≡_, refl, _∙_, ap}
+use mathlib.Core.Bool.{true}
 use mathlib.Core.List.{[], _∷_}
-use Prim.Native.Nat.{ℕ, _-_, _*_}
+use Prim.Native.Nat.{ℕ, _-_, _*_, _<_}
 use native.Mathlib.Omega.{arith}
 use lib.IntN.{ℤ, pos}
-use mir.Syntax.{w16}
-use mir.Val.{toZ, ofZ}
 use lib.ListN.{length, getD, drop}
 use lib.Seq.{length-sets}
+use mir.Syntax.{w16}
+use mir.Val.{toZ, ofZ}
 use Rattle.geometry.specs.Mark.{placeInRange}
 use Rattle.geometry.proofs.Dots.{fetched}
 use Rattle.geometry.proofs.Accepted.{every-at}
-use Rattle.full.proofs.Rows.{Filling, filling-last, filling-more, filling-done, drop-sets}
+use Rattle.full.specs.Full.{workNamed}
+use Rattle.full.specs.inner.Row.{Counted}
+use Rattle.full.proofs.Rows.{drop-sets}
+use Rattle.full.proofs.Filling.{Filling, before, filling-last, filling-more, filling-stops, filling-done}
 use Rattle.full.proofs.table.fill.Statement.{statement}
 use Rattle.full.proofs.table.fill.Tie as tie
 
@@ -22,24 +26,72 @@ Inv-loop places lengths work₀ next₀ i₀ work next i = Filling places length
 abbrev μ-loop : tie.MeasureT-loop
 μ-loop places lengths work₀ next₀ i₀ work next i = i
 
--- the places of the current mark and of the one before it, once they are read
-abbrev start : tie.After-kept-before-arg Inv-loop μ-loop → tie.Start Inv-loop μ-loop
-start p = p .before .before .before .before .before .before .before .before
+-- the last mark's row is stored: nothing beyond the named part is touched, and the work area is as long as it was
+abbrev Stored : Type 0
+Stored = tie.After-work Inv-loop μ-loop
 
-abbrev placeAt : tie.After-kept-before-arg Inv-loop μ-loop → ℕ → ℤ
+abbrev entered : Stored → tie.Start Inv-loop μ-loop
+entered s = let chosen = s .before .before in chosen .before .before .before
+
+rest-kept : (s : Stored) → drop workNamed (s .before .store .last .0) ≡ drop workNamed (entered s .args .work .now)
+rest-kept s =
+    let unbounded = pos 32767 ∷ pos 32767 ∷ pos 32767 ∷ pos 32767 ∷ [] in
+    let last = length (entered s .args .places .now) - 1 in
+    let few = entered s .pre .few in
+    ap (drop workNamed) (s .before .store .ensures) ∙ drop-sets unbounded (entered s .args .work .now) (4 * last) workNamed (omega arith)
+
+as-long : (s : Stored) → length (s .before .store .last .0) ≡ length (entered s .args .work .now)
+as-long s = ap length (s .before .store .ensures) ∙ simp length-sets
+
+-- a turn, and the place of the mark before the current one, once it is read
+abbrev Placed : Type 0
+Placed = tie.After-kept-before-arg Inv-loop μ-loop
+
+abbrev turn : Placed → tie.At-loop Inv-loop μ-loop
+turn p = p .before .before
+
+abbrev start : Placed → tie.Start Inv-loop μ-loop
+start p = entered (turn p .before)
+
+abbrev placeAt : Placed → ℕ → ℤ
 placeAt p k = getD (start p .args .places .now) k (pos 0)
 
-abbrev index : tie.After-kept-before-arg Inv-loop μ-loop → ℕ
-index p = p .before .before .loop .i
+in-range : (p : Placed) (k : ℕ) → k < length (start p .args .places .now) → placeInRange (placeAt p k) ≡ true
+in-range p k h = every-at placeInRange (start p .args .places .now) (pos 0) k (turn p .loop .inv .ready .places-good) h
 
-before-read : (p : tie.After-kept-before-arg Inv-loop μ-loop) → toZ w16 (ofZ w16 (placeAt p (index p - 1))) ≡ placeAt p (index p - 1)
-before-read p = fetched (placeAt p (index p - 1)) (p .kept-before-arg .given)
+before-read : (p : Placed) → toZ w16 (ofZ w16 (placeAt p (turn p .loop .i - 1))) ≡ placeAt p (turn p .loop .i - 1)
+before-read p = fetched (placeAt p (turn p .loop .i - 1)) (p .kept-before-arg .given)
 
-here-read : (q : tie.After-kept-before-arg2 Inv-loop μ-loop) → toZ w16 (ofZ w16 (placeAt (q .before .before) (index (q .before .before)))) ≡ placeAt (q .before .before) (index (q .before .before))
-here-read q = fetched (placeAt (q .before .before) (index (q .before .before))) (q .kept-before-arg2 .given)
+-- both places are read
+abbrev Both : Type 0
+Both = tie.After-kept-before-arg2 Inv-loop μ-loop
+
+abbrev placed : Both → Placed
+placed b = b .before .before
+
+here-read : (b : Both) → toZ w16 (ofZ w16 (placeAt (placed b) (turn (placed b) .loop .i))) ≡ placeAt (placed b) (turn (placed b) .loop .i)
+here-read b = fetched (placeAt (placed b) (turn (placed b) .loop .i)) (b .kept-before-arg2 .given)
+
+-- the row of the mark before is computed from the row in hand
+abbrev Kept : Type 0
+Kept = tie.After-kept-before Inv-loop μ-loop
+
+abbrev reading : Kept → Placed
+reading k = placed (k .before .before)
+
+kept-is : (k : Kept) → Counted
+    (before (start (reading k) .args .places .now) (start (reading k) .args .lengths .now) (turn (reading k) .loop .i - 1) (turn (reading k) .loop .i)
+    (turn (reading k) .loop .next .reaches)) (k .kept-before .result .reaches) (k .kept-before .result .count)
+kept-is k = rw (before-read (reading k), here-read (k .before .before)) at (k .kept-before .ensures)
 
 returns : tie.Need-returns Inv-loop μ-loop
-returns c = record { rows = λ j low high. absurd (omega arith); first-count = λ some. absurd (omega arith); empty-count = λ none. refl; rest-kept = refl }
+returns c =
+    record {
+      first-count = λ some. absurd (omega arith);
+      empty-count = λ empty. refl;
+      rows = λ some ws same j low high. absurd (omega arith);
+      rest-kept = refl;
+    }
 
 sub-i : tie.Need-sub-i Inv-loop μ-loop
 sub-i c = omega arith
@@ -48,7 +100,7 @@ store-requires : tie.Need-store-requires Inv-loop μ-loop
 store-requires c κs = omega arith
 
 loop-holds : tie.Need-loop-holds Inv-loop μ-loop
-loop-holds c = filling-last _ _ _ _ _ _ (c .before .before .before .before .before .pre) (omega arith) refl (c .before .store .ensures)
+loop-holds c = filling-last _ _ _ _ _ _ (entered c .pre) (omega arith) refl (c .before .store .ensures)
 
 sub-kept-before : tie.Need-sub-kept-before Inv-loop μ-loop
 sub-kept-before c = omega arith
@@ -76,12 +128,20 @@ shared-slice-read-kept-before-2 c = omega arith
 
 kept-before-requires : tie.Need-kept-before-requires Inv-loop μ-loop
 kept-before-requires c κs =
-    let p : tie.After-kept-before-arg Inv-loop μ-loop = c .before .before .before in
-    let f = p .before .before .loop .inv in
-    let inside = f .inside in (
-      rw (before-read p) (every-at placeInRange (start p .args .places .now) (pos 0) (index p - 1) (f .ready .places-good) (omega arith)),
-      rw (here-read (c .before)) (every-at placeInRange (start p .args .places .now) (pos 0) (index p) (f .ready .places-good) (omega arith)),
-    )
+    let p = placed (c .before) in
+    let i = turn p .loop .i in
+    let inside = turn p .loop .inv .inside in
+    (rw (before-read p) (in-range p (i - 1) (omega arith)), rw (here-read (c .before)) (in-range p i inside))
+
+same-length : tie.Need-same-length Inv-loop μ-loop
+same-length c =
+    let t = turn (reading (c .before .before)) in t .loop .inv .long ∙ as-long (t .before)
+
+returns-2 : tie.Need-returns-2 Inv-loop μ-loop
+returns-2 c =
+    let k = c .before .before in
+    let t = turn (reading k) in
+    filling-stops _ _ _ _ _ _ _ (t .loop .inv) _ _ _ (omega arith) (kept-is k) _ (omega arith) (rest-kept (t .before))
 
 sub-i-2 : tie.Need-sub-i-2 Inv-loop μ-loop
 sub-i-2 c = omega arith
@@ -94,14 +154,16 @@ loop-less c = omega arith
 
 loop-again : tie.Need-loop-again Inv-loop μ-loop
 loop-again c =
-    filling-more _ _ _ _ _ _ _ _ _ _ _ (c .before .before .before .before .before .before .before .before .before .loop .inv) (omega arith) (rw (before-read (c .before .before .before .before .before .before .before), here-read (c .before .before .before .before .before)) at (c .before .before .before .kept-before .ensures))
-    (c .before .store2 .ensures)
+    let goes-on = c .before .before .before in
+    let k = goes-on .before .before in
+    let t = turn (reading k) in
+    filling-more _ _ _ _ _ _ _ (t .loop .inv) _ _ _ (omega arith) (kept-is k) _ (c .before .store2 .ensures)
 
-same-length : tie.Need-same-length Inv-loop μ-loop
-same-length c = c .before .loop .inv .long ∙ ap length (c .before .before .before .store .ensures) ∙ simp length-sets
+same-length-2 : tie.Need-same-length-2 Inv-loop μ-loop
+same-length-2 c = let t = c .before in t .loop .inv .long ∙ as-long (t .before)
 
-returns-2 : tie.Need-returns-2 Inv-loop μ-loop
-returns-2 c = filling-done _ _ _ _ _ _ _ _ (c .before .loop .inv) (omega arith) (ap (drop 20000) (c .before .before .before .store .ensures) ∙ drop-sets (pos 32767 ∷ pos 32767 ∷ pos 32767 ∷ pos 32767 ∷ []) (c .before .before .before .before .before .before .before .args .work .now) (4 * (length (c .before .before .before .before .before .before .before .args .places .now) - 1)) 20000 (omega arith))
+returns-3 : tie.Need-returns-3 Inv-loop μ-loop
+returns-3 c = let t = c .before in filling-done _ _ _ _ _ _ _ _ (t .loop .inv) (omega arith) (rest-kept (t .before))
 
 pub fill-spec : {M : Type 1} → statement M
 fill-spec =
@@ -122,9 +184,11 @@ fill-spec =
     shared-slice-copy-out-kept-before-2
     shared-slice-read-kept-before-2
     kept-before-requires
+    same-length
+    returns-2
     sub-i-2
     store-requires-2
     loop-less
     loop-again
-    same-length
-    returns-2)
+    same-length-2
+    returns-3)

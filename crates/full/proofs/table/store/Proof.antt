@@ -62,11 +62,15 @@ same-length c = search needs
 
 returns : tie.Need-returns
 returns c =
+    let third = c .before in
+    let second = third .before in
+    let first = second .before in
+    let reaches = first .before .before .args .kept .reaches in
     rw (
-      fetched (getD (c .before .before .before .before .before .args .kept .reaches) 0 (pos 0)) (c .before .before .before .work .given),
-      fetched (getD (c .before .before .before .before .before .args .kept .reaches) 1 (pos 0)) (c .before .before .work2 .given),
-      fetched (getD (c .before .before .before .before .before .args .kept .reaches) 2 (pos 0)) (c .before .work3 .given),
-      fetched (getD (c .before .before .before .before .before .args .kept .reaches) 3 (pos 0)) (c .work4 .given),
+      fetched (getD reaches 0 (pos 0)) (first .work .given),
+      fetched (getD reaches 1 (pos 0)) (second .work2 .given),
+      fetched (getD reaches 2 (pos 0)) (third .work3 .given),
+      fetched (getD reaches 3 (pos 0)) (c .work4 .given),
       add-one,
       add-two,
       add-three,

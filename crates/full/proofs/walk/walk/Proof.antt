@@ -1,18 +1,16 @@
 -- `full::walk::walk` meets its contract: the numbers written so far and the walk from the current mark on are the whole walk.
-use mathlib.Core.Path.{_≡_}
+use mathlib.Core.Path.{_≡_, refl}
 use mathlib.Core.Bool.{true}
 use Prim.Native.Nat.{ℕ, _-_, _+_, _*_}
 use native.Mathlib.Omega.{arith}
-use borrow.Author.Needs.{needs}
 use lib.IntN.{ℤ, pos}
+use lib.ListN.{length, getD}
 use mir.Syntax.{w16}
 use mir.Val.{toZ, ofZ}
-use lib.ListN.{length, getD}
 use Rattle.geometry.specs.Mark.{placeInRange}
 use Rattle.geometry.proofs.Dots.{fetched, range-dots}
 use Rattle.geometry.proofs.Accepted.{every-at}
-use Rattle.full.proofs.Walks.{Walking, walking-start}
-use Rattle.full.proofs.WalkSteps.{walking-more, walking-done}
+use Rattle.full.proofs.Walking.{Walking, walking-start, walking-more, walking-done}
 use Rattle.full.proofs.walk.walk.Statement.{statement}
 use Rattle.full.proofs.walk.walk.Tie as tie
 
@@ -22,48 +20,39 @@ Inv-loop places lengths work positions₀ at₀ i₀ positions at i = Walking pl
 abbrev μ-loop : tie.MeasureT-loop
 μ-loop places lengths work positions₀ at₀ i₀ positions at i = length places - i
 
--- the current mark's place and its row, once the place is read
-abbrev start : tie.After-place Inv-loop μ-loop → tie.Start Inv-loop μ-loop
-start p = p .before .before .before .before .before
+-- the current mark's place is read: what came, the turn, the place and a number of the work area
+abbrev Placed : Type 0
+Placed = tie.After-step-arg Inv-loop μ-loop
 
-abbrev index : tie.After-place Inv-loop μ-loop → ℕ
-index p = p .before .before .loop .i
+abbrev turn : Placed → tie.At-loop Inv-loop μ-loop
+turn p = p .before .before
 
-abbrev placeAt : tie.After-place Inv-loop μ-loop → ℤ
-placeAt p = getD (start p .args .places .now) (index p) (pos 0)
+abbrev start : Placed → tie.Start Inv-loop μ-loop
+start p = turn p .before .before .before
 
-abbrev cellAt : tie.After-place Inv-loop μ-loop → ℕ → ℤ
+abbrev placeAt : Placed → ℤ
+placeAt p = getD (start p .args .places .now) (turn p .loop .i) (pos 0)
+
+abbrev cellAt : Placed → ℕ → ℤ
 cellAt p n = getD (start p .args .work .now) n (pos 0)
 
-placed : (p : tie.After-place Inv-loop μ-loop) → placeInRange (placeAt p) ≡ true
-placed p = every-at placeInRange (start p .args .places .now) (pos 0) (index p) (p .before .before .loop .inv .ready .ready .places-good) (p .before .loop-test .taken)
+in-range : (p : Placed) → placeInRange (placeAt p) ≡ true
+in-range p =
+    every-at placeInRange (start p .args .places .now) (pos 0) (turn p .loop .i) (turn p .loop .inv .ready .ready .places-good)
+    (p .before .loop-test .taken)
 
-fetched-place : (p : tie.After-place Inv-loop μ-loop) → toZ w16 (ofZ w16 (placeAt p)) ≡ placeAt p
-fetched-place p = fetched (placeAt p) (p .place .given)
+place-read : (p : Placed) → toZ w16 (ofZ w16 (placeAt p)) ≡ placeAt p
+place-read p = fetched (placeAt p) (p .step-arg .given)
+
+-- and the row
+abbrev placed : tie.After-step-arg4 Inv-loop μ-loop → Placed
+placed r = let row = r .before .before in row .before .before
 
 loop-holds : tie.Need-loop-holds Inv-loop μ-loop
-loop-holds c = walking-start _ _ _ _ (c .before .before .pre)
+loop-holds c = walking-start _ _ _ _ _ _ refl refl (omega arith) (omega arith) (c .before .before .pre)
 
 mul-row : tie.Need-mul-row Inv-loop μ-loop
 mul-row c = omega arith
-
-mul-place : tie.Need-mul-place Inv-loop μ-loop
-mul-place c = omega arith
-
-shared-slice-copy-out-place : tie.Need-shared-slice-copy-out-place Inv-loop μ-loop
-shared-slice-copy-out-place c = omega arith
-
-shared-slice-read-left-end : tie.Need-shared-slice-read-left-end Inv-loop μ-loop
-shared-slice-read-left-end c = omega arith
-
-left-end-requires : tie.Need-left-end-requires Inv-loop μ-loop
-left-end-requires c κs = rw (fetched-place (c .before)) (placed (c .before))
-
-shared-slice-read-right-end : tie.Need-shared-slice-read-right-end Inv-loop μ-loop
-shared-slice-read-right-end c = omega arith
-
-right-end-requires : tie.Need-right-end-requires Inv-loop μ-loop
-right-end-requires c κs = rw (fetched-place (c .before .before .before)) (placed (c .before .before .before))
 
 mul-step : tie.Need-mul-step Inv-loop μ-loop
 mul-step c = omega arith
@@ -71,8 +60,8 @@ mul-step c = omega arith
 shared-slice-copy-out-step : tie.Need-shared-slice-copy-out-step Inv-loop μ-loop
 shared-slice-copy-out-step c = omega arith
 
-add-step : tie.Need-add-step Inv-loop μ-loop
-add-step c = omega arith
+shared-slice-read-step : tie.Need-shared-slice-read-step Inv-loop μ-loop
+shared-slice-read-step c = omega arith
 
 mul-step-2 : tie.Need-mul-step-2 Inv-loop μ-loop
 mul-step-2 c = omega arith
@@ -80,8 +69,8 @@ mul-step-2 c = omega arith
 shared-slice-copy-out-step-2 : tie.Need-shared-slice-copy-out-step-2 Inv-loop μ-loop
 shared-slice-copy-out-step-2 c = omega arith
 
-add-step-2 : tie.Need-add-step-2 Inv-loop μ-loop
-add-step-2 c = omega arith
+add-step : tie.Need-add-step Inv-loop μ-loop
+add-step c = omega arith
 
 mul-step-3 : tie.Need-mul-step-3 Inv-loop μ-loop
 mul-step-3 c = omega arith
@@ -89,8 +78,17 @@ mul-step-3 c = omega arith
 shared-slice-copy-out-step-3 : tie.Need-shared-slice-copy-out-step-3 Inv-loop μ-loop
 shared-slice-copy-out-step-3 c = omega arith
 
+add-step-2 : tie.Need-add-step-2 Inv-loop μ-loop
+add-step-2 c = omega arith
+
+mul-step-4 : tie.Need-mul-step-4 Inv-loop μ-loop
+mul-step-4 c = omega arith
+
+shared-slice-copy-out-step-4 : tie.Need-shared-slice-copy-out-step-4 Inv-loop μ-loop
+shared-slice-copy-out-step-4 c = omega arith
+
 step-requires : tie.Need-step-requires Inv-loop μ-loop
-step-requires c κs = search needs
+step-requires c κs = let p = placed (c .before .before) in rw (place-read p) (in-range p)
 
 slice-write-positions : tie.Need-slice-write-positions Inv-loop μ-loop
 slice-write-positions c = omega arith
@@ -103,24 +101,21 @@ loop-less c = omega arith
 
 loop-again : tie.Need-loop-again Inv-loop μ-loop
 loop-again c =
-    let p : tie.After-place Inv-loop μ-loop = c .before .before .before .before .before .before .before .before .before .before in
-    let w = p .before .before .loop .inv in
-    let l = c .before .before .before .before .before .before .before .before .left-end in
-    let r = c .before .before .before .before .before .before .right-end in
-    walking-more _ _ _ _ _ _ _ _ w (p .before .loop-test .taken) (l .result) (r .result) (rw (fetched-place p) at (l .ensures)) (rw (fetched-place p) at (r .ensures))
-    (c .step .result .position) (c .step .result .above) (c .step .result .below)
+    let row = c .before .before .before in
+    let p = placed row in
+    let w = turn p .loop .inv in
+    let first = 4 * turn p .loop .i in
+    walking-more _ _ _ _ _ _ _ _ w (p .before .loop-test .taken) (c .step .result .position) (c .step .result .above) (c .step .result .below)
     (rw (
-      fetched (p .before .before .loop .at .above) (w .above-held),
-      fetched (p .before .before .loop .at .below) (w .below-held),
-      fetched-place p,
-      fetched (l .result) (l .ok),
-      fetched (r .result) (r .ok),
-      fetched (cellAt p (4 * index p)) (c .before .before .before .before .before .step-arg .given),
-      fetched (cellAt p (4 * index p + 1)) (c .before .before .before .before .step-arg2 .given),
-      fetched (cellAt p (4 * index p + 2)) (c .before .before .before .step-arg3 .given),
+      fetched (turn p .loop .at .above) (w .above-held),
+      fetched (turn p .loop .at .below) (w .below-held),
+      place-read p,
+      fetched (cellAt p first) (row .before .before .step-arg2 .given),
+      fetched (cellAt p (first + 1)) (row .before .step-arg3 .given),
+      fetched (cellAt p (first + 2)) (row .step-arg4 .given),
     )
     at (c .step .ensures))
-    (omega (arith, range-dots (placeAt p) (placed p)))
+    (omega (arith, range-dots (placeAt p) (in-range p)))
 
 same-length : tie.Need-same-length Inv-loop μ-loop
 same-length c = c .before .loop .inv .long
@@ -136,20 +131,17 @@ walk-spec =
     μ-loop
     loop-holds
     mul-row
-    mul-place
-    shared-slice-copy-out-place
-    shared-slice-read-left-end
-    left-end-requires
-    shared-slice-read-right-end
-    right-end-requires
     mul-step
     shared-slice-copy-out-step
-    add-step
+    shared-slice-read-step
     mul-step-2
     shared-slice-copy-out-step-2
-    add-step-2
+    add-step
     mul-step-3
     shared-slice-copy-out-step-3
+    add-step-2
+    mul-step-4
+    shared-slice-copy-out-step-4
     step-requires
     slice-write-positions
     add-i

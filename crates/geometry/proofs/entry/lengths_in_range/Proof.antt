@@ -26,8 +26,15 @@ shared-slice-read-length-in-range c = omega arith
 length-in-range-requires : tie.Need-length-in-range-requires Inv-loop μ-loop
 length-in-range-requires c κs = search needs
 
+-- the turn of the loop in which an element was tested, and what the test said of it
+abbrev turn : tie.After-length-in-range Inv-loop μ-loop → tie.In-loop Inv-loop μ-loop
+turn c = c .before .before
+
 returns : tie.Need-returns Inv-loop μ-loop
-returns c = sym (c .before .before .before .before .loop .inv .1 ∙ every-fails lengthInRange _ 0 _ (c .before .before .before .loop-test .taken) (sym (c .before .length-in-range .ensures) ∙ not-true _ (c .if1 .taken)))
+returns c =
+    let inside = turn (c .before) in
+    let fails = sym (c .before .length-in-range .ensures) ∙ not-true _ (c .if1 .taken) in
+    sym (every-fails lengthInRange _ 0 _ (inside .before .loop .inv .1) (inside .loop-test .taken) fails)
 
 add-i : tie.Need-add-i Inv-loop μ-loop
 add-i c = omega arith
@@ -36,12 +43,15 @@ loop-less : tie.Need-loop-less Inv-loop μ-loop
 loop-less c = omega arith
 
 loop-again : tie.Need-loop-again Inv-loop μ-loop
-loop-again c = (omega arith, c .before .before .before .before .loop .inv .1 ∙ every-step lengthInRange _ 0 _ (c .before .before .before .loop-test .taken) (sym (c .before .length-in-range .ensures) ∙ not-false _ (c .if1 .left)))
+loop-again c =
+    let inside = turn (c .before) in
+    let passes = sym (c .before .length-in-range .ensures) ∙ not-false _ (c .if1 .left) in
+    (omega arith, every-step lengthInRange _ 0 _ (inside .before .loop .inv .1) (inside .loop-test .taken) passes)
 
 returns-2 : tie.Need-returns-2 Inv-loop μ-loop
 returns-2 c =
-    let e : c .before .loop .i ≡ length (c .before .before .before .args .lengths .now) = omega arith in
-    sym (c .before .loop .inv .1 ∙ rw e (every-ends lengthInRange (c .before .before .before .args .lengths .now) 0))
+    let lent = c .before .before .before .args .lengths .now in
+    sym (every-ends lengthInRange lent 0 (c .before .loop .i) (c .before .loop .inv .1) (omega arith))
 
 pub lengths-in-range-spec : {M : Type 1} → statement M
 lengths-in-range-spec =

@@ -4,7 +4,7 @@ use Prim.Native.Nat.{_≤_, _-_}
 use native.Mathlib.Omega.{arith}
 use borrow.Author.Needs.{needs}
 use borrow.Author.Tests.{not-true, not-false}
-use lib.IntN.{pos}
+use lib.IntN.{ℤ, pos}
 use lib.ListN.{length, getD, drop}
 use Rattle.geometry.specs.Lists.{every}
 use Rattle.geometry.specs.Mark.{placeInRange}
@@ -19,9 +19,16 @@ Inv-loop places i₀ i = (i ≤ length places) × (every placeInRange places ≡
 abbrev μ-loop : tie.MeasureT-loop
 μ-loop places i₀ i = length places - i
 
--- what the test says of the place that was read
-seen : (c : tie.After-place-in-range Inv-loop μ-loop) → placeInRange (getD (c .before .before .before .before .args .places .now) (c .before .before .before .loop .i) (pos 0)) ≡ c .place-in-range .result
-seen c = ap placeInRange (sym (fetched (getD (c .before .before .before .before .args .places .now) (c .before .before .before .loop .i) (pos 0)) (c .before .place-in-range-arg .given))) ∙ sym (c .place-in-range .ensures)
+-- the turn of the loop in which a place was tested, and the place
+abbrev turn : tie.After-place-in-range Inv-loop μ-loop → tie.In-loop Inv-loop μ-loop
+turn c = c .before .before
+
+abbrev place : tie.After-place-in-range Inv-loop μ-loop → ℤ
+place c = let looped = turn c .before in getD (looped .before .args .places .now) (looped .loop .i) (pos 0)
+
+-- what the test said of it
+seen : (c : tie.After-place-in-range Inv-loop μ-loop) → placeInRange (place c) ≡ c .place-in-range .result
+seen c = ap placeInRange (sym (fetched (place c) (c .before .place-in-range-arg .given))) ∙ sym (c .place-in-range .ensures)
 
 loop-holds : tie.Need-loop-holds Inv-loop μ-loop
 loop-holds c = (omega arith, refl)
@@ -36,7 +43,10 @@ place-in-range-requires : tie.Need-place-in-range-requires Inv-loop μ-loop
 place-in-range-requires c κs = search needs
 
 returns : tie.Need-returns Inv-loop μ-loop
-returns c = sym (c .before .before .before .before .loop .inv .1 ∙ every-fails placeInRange _ (pos 0) _ (c .before .before .before .loop-test .taken) (seen (c .before) ∙ not-true _ (c .if1 .taken)))
+returns c =
+    let inside = turn (c .before) in
+    let fails = seen (c .before) ∙ not-true _ (c .if1 .taken) in
+    sym (every-fails placeInRange _ (pos 0) _ (inside .before .loop .inv .1) (inside .loop-test .taken) fails)
 
 add-i : tie.Need-add-i Inv-loop μ-loop
 add-i c = omega arith
@@ -45,14 +55,18 @@ loop-less : tie.Need-loop-less Inv-loop μ-loop
 loop-less c = omega arith
 
 loop-again : tie.Need-loop-again Inv-loop μ-loop
-loop-again c = (omega arith, c .before .before .before .before .loop .inv .1 ∙ every-step placeInRange _ (pos 0) _ (c .before .before .before .loop-test .taken) (seen (c .before) ∙ not-false _ (c .if1 .left)))
+loop-again c =
+    let inside = turn (c .before) in
+    let passes = seen (c .before) ∙ not-false _ (c .if1 .left) in
+    (omega arith, every-step placeInRange _ (pos 0) _ (inside .before .loop .inv .1) (inside .loop-test .taken) passes)
 
 returns-2 : tie.Need-returns-2 Inv-loop μ-loop
 returns-2 c =
-    let e : c .before .loop .i ≡ length (c .before .before .args .places .now) = omega arith in
-    sym (c .before .loop .inv .1 ∙ rw e (every-ends placeInRange (c .before .before .args .places .now) (pos 0)))
+    let lent = c .before .before .args .places .now in
+    sym (every-ends placeInRange lent (pos 0) (c .before .loop .i) (c .before .loop .inv .1) (omega arith))
 
 pub places-in-range-spec : {M : Type 1} → statement M
 places-in-range-spec =
     tie.close
-    (tie.spec Inv-loop μ-loop loop-holds mul-place-in-range shared-slice-copy-out-place-in-range place-in-range-requires returns add-i loop-less loop-again returns-2)
+    (tie.spec Inv-loop μ-loop loop-holds mul-place-in-range shared-slice-copy-out-place-in-range place-in-range-requires returns add-i loop-less loop-again
+    returns-2)

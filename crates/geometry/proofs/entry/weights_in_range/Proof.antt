@@ -29,8 +29,15 @@ shared-slice-read-weight-in-range c = omega arith
 weight-in-range-requires : tie.Need-weight-in-range-requires Inv-loop μ-loop
 weight-in-range-requires c κs = search needs
 
+-- the turn of the loop in which an element was tested, and what the test said of it
+abbrev turn : tie.After-weight-in-range Inv-loop μ-loop → tie.In-loop Inv-loop μ-loop
+turn c = c .before .before
+
 returns : tie.Need-returns Inv-loop μ-loop
-returns c = sym (c .before .before .before .before .loop .inv .1 ∙ every-fails weightInRange _ 0 _ (c .before .before .before .loop-test .taken) (sym (c .before .weight-in-range .ensures) ∙ not-true _ (c .if1 .taken)))
+returns c =
+    let inside = turn (c .before) in
+    let fails = sym (c .before .weight-in-range .ensures) ∙ not-true _ (c .if1 .taken) in
+    sym (every-fails weightInRange _ 0 _ (inside .before .loop .inv .1) (inside .loop-test .taken) fails)
 
 add-i : tie.Need-add-i Inv-loop μ-loop
 add-i c = omega arith
@@ -39,14 +46,18 @@ loop-less : tie.Need-loop-less Inv-loop μ-loop
 loop-less c = omega arith
 
 loop-again : tie.Need-loop-again Inv-loop μ-loop
-loop-again c = (omega arith, c .before .before .before .before .loop .inv .1 ∙ every-step weightInRange _ 0 _ (c .before .before .before .loop-test .taken) (sym (c .before .weight-in-range .ensures) ∙ not-false _ (c .if1 .left)))
+loop-again c =
+    let inside = turn (c .before) in
+    let passes = sym (c .before .weight-in-range .ensures) ∙ not-false _ (c .if1 .left) in
+    (omega arith, every-step weightInRange _ 0 _ (inside .before .loop .inv .1) (inside .loop-test .taken) passes)
 
 returns-2 : tie.Need-returns-2 Inv-loop μ-loop
 returns-2 c =
-    let e : c .before .loop .i ≡ length (c .before .before .before .args .weights .now) = omega arith in
-    sym (c .before .loop .inv .1 ∙ rw e (every-ends weightInRange (c .before .before .before .args .weights .now) 0))
+    let lent = c .before .before .before .args .weights .now in
+    sym (every-ends weightInRange lent 0 (c .before .loop .i) (c .before .loop .inv .1) (omega arith))
 
 pub weights-in-range-spec : {M : Type 1} → statement M
 weights-in-range-spec =
     tie.close
-    (tie.spec Inv-loop μ-loop loop-holds mul-weight-in-range shared-slice-read-weight-in-range weight-in-range-requires returns add-i loop-less loop-again returns-2)
+    (tie.spec Inv-loop μ-loop loop-holds mul-weight-in-range shared-slice-read-weight-in-range weight-in-range-requires returns add-i loop-less loop-again
+    returns-2)

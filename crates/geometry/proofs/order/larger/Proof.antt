@@ -12,15 +12,18 @@ use Rattle.geometry.proofs.Dots.{back, dot-le}
 use Rattle.geometry.proofs.order.larger.Statement.{statement}
 use Rattle.geometry.proofs.order.larger.Tie as tie
 
-test : (c : tie.Start) (t : Bool) → leZ (toZ w16 (ofZ w16 (c .args .x))) (toZ w16 (ofZ w16 (c .args .y))) ≡ t → leb (dot (c .args .x)) (dot (c .args .y)) ≡ t
+test : (c : tie.Start) (t : Bool) → leZ (toZ w16 (ofZ w16 (c .args .x))) (toZ w16 (ofZ w16 (c .args .y))) ≡ t
+    → leb (dot (c .args .x)) (dot (c .args .y)) ≡ t
 test c t e =
     sym (dot-le (c .args .x) (c .args .y) (c .fits .x .sfits) (c .fits .y .sfits)) ∙ (rw (back (c .fits .x), back (c .fits .y)) at e)
 
 returns : tie.Need-returns
-returns c = rw (back (c .before .fits .y)) (omega (arith, leb-true (dot (c .before .args .x)) (dot (c .before .args .y)) (test (c .before) true (c .if1 .taken))))
+returns c =
+    rw (back (c .before .fits .y)) (omega (arith, leb-true (dot (c .before .args .x)) (dot (c .before .args .y)) (test (c .before) true (c .if1 .taken))))
 
 returns-2 : tie.Need-returns-2
-returns-2 c = rw (back (c .before .fits .x)) (omega (arith, leb-false (dot (c .before .args .x)) (dot (c .before .args .y)) (test (c .before) false (c .if1 .left))))
+returns-2 c =
+    rw (back (c .before .fits .x)) (omega (arith, leb-false (dot (c .before .args .x)) (dot (c .before .args .y)) (test (c .before) false (c .if1 .left))))
 
 pub larger-spec : {M : Type 1} → statement M
 larger-spec = tie.close (tie.spec returns returns-2)

@@ -1,10 +1,17 @@
 -- `job::field::number_at` meets its contract: the bytes that it reads are the first of those from the position on.
-use mathlib.Core.Path.{_≡_, sym, _∙_}
+use mathlib.Core.Path.{_≡_}
 use native.Mathlib.Omega.{arith}
+use Rattle.job.specs.Format.{byteWidth, wordWidth}
 use Rattle.job.proofs.Numbers.{number-of-one, number-of-two}
 use borrow.Author.Needs.{needs}
 use Rattle.job.proofs.field.number_at.Statement.{statement}
 use Rattle.job.proofs.field.number_at.Tie as tie
+
+abbrev single : tie.Then1 → tie.Start
+single c = c .before .before
+
+abbrev double : tie.Else1 → tie.Start
+double c = c .before .before
 
 shared-slice-read-wide : tie.Need-shared-slice-read-wide
 shared-slice-read-wide c = search needs
@@ -14,8 +21,9 @@ wide-requires c κs = search needs
 
 returns : tie.Need-returns
 returns c =
-    let s = c .before .before .before .before in
-    c .wide .ensures .0 ∙ sym (rw (c .before .before .if1 .taken) (number-of-one (s .args .job .now) (s .args .at) (omega arith)))
+    let s = single (c .before .before) in
+    let one : s .args .width ≡ byteWidth = omega arith in
+    rw one (omega (arith, number-of-one (s .args .job .now) (s .args .at) (omega arith)))
 
 shared-slice-read-wide-2 : tie.Need-shared-slice-read-wide-2
 shared-slice-read-wide-2 c = search needs
@@ -40,9 +48,11 @@ add-result c = search needs
 
 returns-2 : tie.Need-returns-2
 returns-2 c =
-    let s = c .before .before .before .before .before .before in
-    let e : s .args .width ≡ 2 = omega arith in
-    rw e (omega (arith, number-of-two (s .args .job .now) (s .args .at) (omega arith)))
+    let high : tie.After-wide2 = c .before .before in
+    let e : tie.Else1 = high .before .before in
+    let s = double e in
+    let two : s .args .width ≡ wordWidth = omega arith in
+    rw two (omega (arith, number-of-two (s .args .job .now) (s .args .at) (omega arith)))
 
 pub number-at-spec : {M : Type 1} → statement M
 number-at-spec =

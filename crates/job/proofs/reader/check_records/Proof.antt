@@ -1,32 +1,47 @@
--- `job::reader::check_records` meets its contract: the answer for all records is that for the records that are left.
+-- `job::reader::check_records` meets its contract: the verdict on all records is that on the records that are left.
 use mathlib.Core.Path.{_≡_, refl, sym, _∙_, ap}
-use mathlib.Core.Bool.{true}
-use Prim.Native.Nat.{_-_, _≤_}
+use mathlib.Core.List.{List}
+use Prim.Native.Nat.{ℕ, _-_, _≤_}
 use native.Mathlib.Omega.{arith}
-use lib.Dec.{eqb}
-use lib.ListN.{length, drop}
+use lib.ListN.{length}
 use Rattle.geometry.specs.Refusal.{numberOf}
 use Rattle.job.specs.Outcome.{verdictOf}
-use Rattle.job.specs.Decode.{decodeRecords}
-use Rattle.job.specs.inner.Place.{placeOf}
-use Rattle.job.proofs.Turns.{leftAt, turn-refused, read-good, turn-verdict, records-over, records-left-over}
+use Rattle.geometry.specs.inner.Place.{mostDot}
+use Rattle.job.specs.inner.Step.{marksBehind}
+use Rattle.job.proofs.RecordsLeft.{leftAt, Next, next-verdict, turn-refused, turn-next, records-over, bytes-over}
 use Rattle.job.proofs.reader.check_records.Statement.{statement}
 use Rattle.job.proofs.reader.check_records.Tie as tie
 
+record Checked (job : List ℕ) (count first at dot i : ℕ) : Type 0 where
+  counted : i ≤ count
+  within : at ≤ length job
+  high : dot ≤ mostDot
+  same-verdict : verdictOf (marksBehind job count first) ≡ verdictOf (leftAt job count at dot i)
+
 abbrev Inv-loop : tie.InvT-loop
-Inv-loop job count first at₀ dot₀ i₀ at dot i =
-    (i ≤ count)
-    × (at ≤ length job)
-    × (dot ≤ 62768)
-    × (verdictOf (decodeRecords count true (placeOf first) (drop 4 job)) ≡ verdictOf (leftAt job count at dot i))
+Inv-loop job count first at₀ dot₀ i₀ at dot i = Checked job count first at dot i
 
 abbrev μ-loop : tie.MeasureT-loop
 μ-loop job count first at₀ dot₀ i₀ at dot i = count - i
 
+abbrev start : tie.At-loop Inv-loop μ-loop → tie.Start Inv-loop μ-loop
+start a = a .before .before
+
+-- the turn in which a record was read
+abbrev turn : tie.After-read-record Inv-loop μ-loop → tie.At-loop Inv-loop μ-loop
+turn q = q .before .before
+
+next : (c : tie.Else1 Inv-loop μ-loop) → let q = c .before .before in
+    Next (start (turn q) .args .job .now) (start (turn q) .args .count) (turn q .loop .at) (turn q .loop .dot) (turn q .loop .i) (q .read-record .result)
+next c =
+    let q = c .before .before in
+    turn-next _ _ _ _ _ _ (q .before .loop-test .taken) (q .read-record .ensures) (c .if1 .left)
+
 loop-holds : tie.Need-loop-holds Inv-loop μ-loop
 loop-holds c =
-    let e : c .before .args .count - 0 ≡ c .before .args .count = omega arith in
-    (omega arith, omega arith, omega arith, rw e refl)
+    let a = c .before .args in
+    let all : a .count - 0 ≡ a .count = omega arith in
+    record { counted = omega arith; within = omega arith; high = omega arith; same-verdict = rw all refl }
 
 read-record-requires : tie.Need-read-record-requires Inv-loop μ-loop
 read-record-requires c κs = omega arith
@@ -34,7 +49,10 @@ read-record-requires c κs = omega arith
 returns : tie.Need-returns Inv-loop μ-loop
 returns c =
     let q = c .before .before in
-    turn-refused (q .before .before .before .before .args .job .now) (q .before .before .before .before .args .count) (q .before .before .loop .at) (q .before .before .loop .dot) (q .before .before .loop .i) (q .before .loop-test .taken) (q .read-record .result) (q .read-record .ensures) (c .if1 .taken) ∙ ap numberOf (sym (q .before .before .loop .inv .3))
+    let a = turn q in
+    turn-refused (start a .args .job .now) (start a .args .count) (a .loop .at) (a .loop .dot) (a .loop .i) (q .read-record .result)
+    (q .before .loop-test .taken) (q .read-record .ensures) (c .if1 .taken)
+    ∙ ap numberOf (sym (a .loop .inv .same-verdict))
 
 add-i : tie.Need-add-i Inv-loop μ-loop
 add-i c = omega arith
@@ -45,20 +63,29 @@ loop-less c = omega arith
 loop-again : tie.Need-loop-again Inv-loop μ-loop
 loop-again c =
     let q = c .before .before in
-    let g = read-good (q .before .before .before .before .args .job .now) (q .before .before .before .before .args .count) (q .before .before .loop .at) (q .before .before .loop .dot) (q .before .before .loop .i) (q .before .loop-test .taken) (q .read-record .result) (q .read-record .ensures) (c .if1 .left) .holds in
-    (omega arith, g .within, g .high, q .before .before .loop .inv .3 ∙ turn-verdict (q .before .before .before .before .args .job .now) (q .before .before .before .before .args .count) (q .before .before .loop .at) (q .before .before .loop .dot) (q .before .before .loop .i) (q .before .loop-test .taken) (q .read-record .result) (q .read-record .ensures) (c .if1 .left))
+    let a = turn q in
+    record {
+      counted = omega arith;
+      within = next c .within;
+      high = next c .high;
+      same-verdict =
+          a .loop .inv .same-verdict
+          ∙ next-verdict (start a .args .job .now) (start a .args .count) (a .loop .at) (a .loop .dot) (a .loop .i) (q .read-record .result) (next c);
+    }
 
 returns-2 : tie.Need-returns-2 Inv-loop μ-loop
 returns-2 c =
     let a = c .before .before in
-    let e : a .before .before .args .count - a .loop .i ≡ 0 = omega arith in
-    sym (ap numberOf (a .loop .inv .3) ∙ rw (e, records-left-over (eqb (a .loop .i) 0) (placeOf (a .loop .dot)) (a .before .before .args .job .now) (a .loop .at) (c .if2 .taken)) refl)
+    let s = start a in
+    sym (ap numberOf (a .loop .inv .same-verdict)
+    ∙ rw (bytes-over (s .args .job .now) (s .args .count) (a .loop .at) (a .loop .dot) (a .loop .i) (omega arith) (omega arith)) refl)
 
 returns-3 : tie.Need-returns-3 Inv-loop μ-loop
 returns-3 c =
     let a = c .before .before in
-    let e : a .before .before .args .count - a .loop .i ≡ 0 = omega arith in
-    sym (ap numberOf (a .loop .inv .3) ∙ rw (e, records-over (eqb (a .loop .i) 0) (placeOf (a .loop .dot)) (a .before .before .args .job .now) (a .loop .at) (c .if2 .left)) refl)
+    let s = start a in
+    sym (ap numberOf (a .loop .inv .same-verdict)
+    ∙ rw (records-over (s .args .job .now) (s .args .count) (a .loop .at) (a .loop .dot) (a .loop .i) (omega arith) (omega arith)) refl)
 
 pub check-records-spec : {M : Type 1} → statement M
 check-records-spec =

@@ -1,54 +1,68 @@
 -- `job::reader::fill` meets its contract: what is stored and what is still to be stored are together the marks of all records.
-use mathlib.Core.Path.{_≡_, refl, _∙_}
-use mathlib.Core.Bool.{true}
-use Prim.Native.Nat.{_-_, _≤_, _<_}
+use mathlib.Core.Path.{_≡_}
+use mathlib.Core.List.{List}
+use Prim.Native.Nat.{ℕ, _-_, _≤_}
 use native.Mathlib.Omega.{arith}
-use lib.Dec.{eqb}
-use lib.ListN.{length, drop, length-set}
-use lib.Seq.{sets}
+use lib.ListN.{length}
+use Rattle.geometry.specs.Strip.{Strip, strip}
 use Rattle.geometry.specs.Refusal.{accepted}
-use Rattle.job.specs.Outcome.{verdictOf}
-use Rattle.job.specs.Decode.{decodeRecords}
-use Rattle.job.specs.inner.Place.{placeOf}
+use Rattle.geometry.specs.inner.Place.{placeOf, mostDot}
 use Rattle.geometry.proofs.Dots.{fetched}
-use Rattle.job.proofs.Places.{place-mag}
-use Rattle.job.proofs.Turns.{leftAt}
-use Rattle.job.proofs.Stores.{store-one, marksIn, Turn, turn, all-stored, accepted-count}
+use Rattle.geometry.proofs.Places.{place-mag}
+use Rattle.job.specs.Outcome.{verdictOf}
+use Rattle.job.specs.Decode.{markOf}
+use Rattle.job.specs.inner.Step.{marksBehind}
+use Rattle.job.proofs.RecordsLeft.{leftAt, Next, turn-accepted}
+use Rattle.job.proofs.StoredMarks.{StoringMarks, storing-starts, storing-next}
+use Rattle.job.proofs.FilledMarks.{marksIn, next-accepted, next-mark, none-left, filled-all}
 use Rattle.job.proofs.reader.fill.Statement.{statement}
 use Rattle.job.proofs.reader.fill.Tie as tie
 
+record Filling (job : List ℕ) (count first : ℕ) (old cur : Strip) (at dot i : ℕ) : Type 0 where
+  counted : i ≤ count
+  within : at ≤ length job
+  high : dot ≤ mostDot
+  all-good : verdictOf (leftAt job count at dot i) ≡ accepted
+  storing : StoringMarks (marksIn (marksBehind job count first)) (marksIn (leftAt job count at dot i)) i old cur
+
 abbrev Inv-loop : tie.InvT-loop
 Inv-loop job count first places₀ lengths₀ weights₀ at₀ dot₀ i₀ places lengths weights at dot i =
-    (i ≤ count)
-    × (at ≤ length job)
-    × (dot ≤ 62768)
-    × (length places ≡ length places₀)
-    × (length lengths ≡ length lengths₀)
-    × (length weights ≡ length weights₀)
-    × (verdictOf (leftAt job count at dot i) ≡ accepted)
-    × (sets places₀ 0 (marksIn (decodeRecords count true (placeOf first) (drop 4 job)) .places) ≡ sets places i (marksIn (leftAt job count at dot i) .places))
-    × (sets lengths₀ 0 (marksIn (decodeRecords count true (placeOf first) (drop 4 job)) .lengths) ≡ sets lengths i (marksIn (leftAt job count at dot i) .lengths))
-    × (sets weights₀ 0 (marksIn (decodeRecords count true (placeOf first) (drop 4 job)) .weights) ≡ sets weights i (marksIn (leftAt job count at dot i) .weights))
+    Filling job count first (strip places₀ lengths₀ weights₀) (strip places lengths weights) at dot i
 
 abbrev μ-loop : tie.MeasureT-loop
 μ-loop job count first places₀ lengths₀ weights₀ at₀ dot₀ i₀ places lengths weights at dot i = count - i
 
-next : (q : tie.After-read-record Inv-loop μ-loop) → Turn (q .before .before .before .before .before .before .args .job .now) (q .before .before .before .before .before .before .args .count) (q .before .before .loop .at) (q .before .before .loop .dot) (q .before .before .loop .i) (q .read-record .result)
-next q =
-    let a = q .before .before in
-    let s = a .before .before .before .before in
-    turn (s .args .job .now) (s .args .count) (a .loop .at) (a .loop .dot) (a .loop .i) (q .before .loop-test .taken) (q .read-record .result) (q .read-record .ensures) (a .loop .inv .6)
+abbrev entered : tie.After-slice-known2 Inv-loop μ-loop → tie.Start Inv-loop μ-loop
+entered c = c .before .before .before
+
+abbrev start : tie.At-loop Inv-loop μ-loop → tie.Start Inv-loop μ-loop
+start a = entered (a .before)
+
+abbrev lent : tie.At-loop Inv-loop μ-loop → Strip
+lent a = strip (start a .args .places .now) (start a .args .lengths .now) (start a .args .weights .now)
+
+abbrev filledSo : tie.At-loop Inv-loop μ-loop → Strip
+filledSo a = strip (a .loop .places) (a .loop .lengths) (a .loop .weights)
+
+-- the turn in which a record was read, which is good since all are
+abbrev turn : tie.After-read-record Inv-loop μ-loop → tie.At-loop Inv-loop μ-loop
+turn q = q .before .before
+
+next : (q : tie.After-read-record Inv-loop μ-loop)
+    → Next (start (turn q) .args .job .now) (start (turn q) .args .count) (turn q .loop .at) (turn q .loop .dot) (turn q .loop .i) (q .read-record .result)
+next q = turn-accepted _ _ _ _ _ _ (q .before .loop-test .taken) (q .read-record .ensures) (turn q .loop .inv .all-good)
 
 loop-holds : tie.Need-loop-holds Inv-loop μ-loop
 loop-holds c =
-    let e : c .before .before .before .args .count - 0 ≡ c .before .before .before .args .count = omega arith in
-    (omega arith, omega arith, omega arith, refl, refl, refl, rw e (c .before .before .before .pre .5), rw e refl, rw e refl, rw e refl)
+    let s = entered c in
+    let all : s .args .count - 0 ≡ s .args .count = omega arith in
+    record { counted = omega arith; within = omega arith; high = omega arith; all-good = rw all (s .pre .all-good); storing = rw all (storing-starts _ _) }
 
 read-record-requires : tie.Need-read-record-requires Inv-loop μ-loop
 read-record-requires c κs = omega arith
 
 place-of-requires : tie.Need-place-of-requires Inv-loop μ-loop
-place-of-requires c κs = omega (arith, next c .high)
+place-of-requires c κs = omega arith
 
 mul-t13 : tie.Need-mul-t13 Inv-loop μ-loop
 mul-t13 c = omega arith
@@ -74,41 +88,34 @@ loop-less c = omega arith
 loop-again : tie.Need-loop-again Inv-loop μ-loop
 loop-again c =
     let q = c .before in
-    let a = q .before .before in
-    let small : q .read-record .result .dot < 65536 = omega (arith, next q .high) in (
-      omega arith,
-      next q .within,
-      next q .high,
-      simp length-set (a .loop .inv .3),
-      simp length-set (a .loop .inv .4),
-      simp length-set (a .loop .inv .5),
-      next q .still-accepted,
-      rw (c .place-of .ensures, fetched (placeOf (q .read-record .result .dot)) (place-mag (q .read-record .result .dot) small)) (a .loop .inv .7 ∙ store-one _ _ _ _ _ (next q .next-place)),
-      a .loop .inv .8 ∙ store-one _ _ _ _ _ (next q .next-length),
-      a .loop .inv .9 ∙ store-one _ _ _ _ _ (next q .next-weight),
-    )
+    let a = turn q in
+    let r = q .read-record .result in
+    record {
+      counted = omega arith;
+      within = next q .within;
+      high = next q .high;
+      all-good = next-accepted (start a .args .job .now) (start a .args .count) (a .loop .at) (a .loop .dot) (a .loop .i) r (a .loop .inv .all-good) (next q);
+      storing = rw (c .place-of .ensures, fetched (placeOf (r .dot)) (place-mag (r .dot) (omega (arith, next q .high))))
+          (storing-next _ _ (a .loop .i) (lent a) (filledSo a) (markOf (placeOf (r .dot)) (r .length) (r .weight)) _
+          (next-mark (start a .args .job .now) (start a .args .count) (a .loop .at) (a .loop .dot) (a .loop .i) r (a .loop .inv .all-good) (next q))
+          (a .loop .inv .storing));
+    }
 
 same-length : tie.Need-same-length Inv-loop μ-loop
-same-length c = c .before .loop .inv .3
+same-length c = c .before .loop .inv .storing .places .as-long
 
 same-length-2 : tie.Need-same-length-2 Inv-loop μ-loop
-same-length-2 c = c .before .loop .inv .4
+same-length-2 c = c .before .loop .inv .storing .lengths .as-long
 
 same-length-3 : tie.Need-same-length-3 Inv-loop μ-loop
-same-length-3 c = c .before .loop .inv .5
+same-length-3 c = c .before .loop .inv .storing .weights .as-long
 
 returns : tie.Need-returns Inv-loop μ-loop
 returns c =
     let a = c .before in
-    let s = a .before .before .before .before in
-    let d = decodeRecords (s .args .count) true (placeOf (s .args .first)) (drop 4 (s .args .job .now)) in
-    let k = accepted-count (s .args .count) true (placeOf (s .args .first)) (drop 4 (s .args .job .now)) (s .pre .5) in
-    let e : s .args .count - a .loop .i ≡ 0 = omega arith in
-    record {
-      places-are = all-stored (λ ms. ms .places) refl d (s .args .places .now) (a .loop .places) (a .loop .i) (eqb (a .loop .i) 0) (placeOf (a .loop .dot)) (drop (a .loop .at) (s .args .job .now)) (s .pre .5) (omega arith) (rw e at (a .loop .inv .7));
-      lengths-are = all-stored (λ ms. ms .lengths) refl d (s .args .lengths .now) (a .loop .lengths) (a .loop .i) (eqb (a .loop .i) 0) (placeOf (a .loop .dot)) (drop (a .loop .at) (s .args .job .now)) (s .pre .5) (omega arith) (rw e at (a .loop .inv .8));
-      weights-are = all-stored (λ ms. ms .weights) refl d (s .args .weights .now) (a .loop .weights) (a .loop .i) (eqb (a .loop .i) 0) (placeOf (a .loop .dot)) (drop (a .loop .at) (s .args .job .now)) (s .pre .5) (omega arith) (rw e at (a .loop .inv .9));
-    }
+    let s = start a in
+    filled-all (s .args .job .now) (s .args .count) (s .args .first) _ (a .loop .i) (lent a) (filledSo a) (s .pre .all-good)
+    (none-left (s .args .job .now) (s .args .count) (a .loop .at) (a .loop .dot) (a .loop .i) (omega arith)) (s .pre .room) (a .loop .inv .storing)
 
 pub fill-spec : {M : Type 1} → statement M
 fill-spec =

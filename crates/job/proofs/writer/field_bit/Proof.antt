@@ -6,10 +6,10 @@ use Rattle.job.proofs.writer.field_bit.Statement.{statement}
 use Rattle.job.proofs.writer.field_bit.Tie as tie
 
 returns : tie.Need-returns
-returns c = (rw (eq-eqb _ _ (c .if1 .taken)) refl, omega arith)
+returns c = (rw (eq-eqb (c .before .args .value) (c .before .args .absent) (omega arith)) refl, omega arith)
 
 returns-2 : tie.Need-returns-2
-returns-2 c = (rw (ne-eqb _ _ (c .if1 .left)) refl, omega arith)
+returns-2 c = (rw (ne-eqb (c .before .args .value) (c .before .args .absent) (omega arith)) refl, omega arith)
 
 pub field-bit-spec : {M : Type 1} → statement M
 field-bit-spec = tie.close (tie.spec returns returns-2)

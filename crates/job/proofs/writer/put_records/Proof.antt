@@ -1,109 +1,47 @@
--- `job::writer::put_records` meets its contract: what is put so far and the records that are left are together the whole.
-use mathlib.Core.Path.{_≡_, refl, sym, _∙_, ap}
-use mathlib.Core.Bool.{true}
-use mathlib.Core.List.{List, _++_}
-use Prim.Native.Nat.{ℕ, _+_, _-_, _≤_}
+-- `job::writer::put_records` meets its contract: what is put so far and the records to come are together the whole.
+use mathlib.Core.Path.{refl}
+use mathlib.Core.List.{List}
+use Prim.Native.Nat.{ℕ, _-_, _≤_}
 use native.Mathlib.Omega.{arith}
-use borrow.Author.Needs.{needs}
-use lib.Dec.{eqb}
-use lib.IntN.{ℤ, pos}
-use lib.ListN.{length, getD, drop}
-use lib.Seq.{sets}
-use Rattle.geometry.specs.Dot.{dot}
-use Rattle.geometry.proofs.Dots.{fetched}
-use Rattle.job.specs.Encode.{encodeRecords, firstPlace}
-use Rattle.job.specs.inner.Place.{placeOf}
-use Rattle.job.specs.inner.Writable.{Writable}
-use Rattle.job.proofs.Places.{place-of-dot}
-use Rattle.job.proofs.Encoding.{recordsFrom, recordOf, encode-turn, writable-turn, encode-over, put-length, room-turn, put-turn, room-left}
+use lib.ListN.{length}
+use Rattle.geometry.specs.Strip.{Strip, strip}
+use Rattle.job.proofs.RecordsToWrite.{Putting, putting-next, putting-ends, own-room}
 use Rattle.job.proofs.writer.put_records.Statement.{statement}
 use Rattle.job.proofs.writer.put_records.Tie as tie
 
+record PutSo (s : Strip) (i : ℕ) (old cur : List ℕ) (at : ℕ) : Type 0 where
+  counted : i ≤ length (s .places)
+  putting : Putting s i old cur at
+
 abbrev Inv-loop : tie.InvT-loop
-Inv-loop places lengths weights job₀ at₀ before₀ i₀ job at before i =
-    (i ≤ length places)
-    × (length job ≡ length job₀)
-    × Writable (eqb i 0) (placeOf before) (drop i places) (drop i lengths) (drop i weights)
-    × (at + length (recordsFrom places lengths weights before i) ≤ length job₀)
-    × (sets job₀ 4 (encodeRecords true (firstPlace places) places lengths weights) ≡ sets job at (recordsFrom places lengths weights before i))
+Inv-loop places lengths weights job₀ at₀ i₀ job at i = PutSo (strip places lengths weights) i job₀ job at
 
 abbrev μ-loop : tie.MeasureT-loop
-μ-loop places lengths weights job₀ at₀ before₀ i₀ job at before i = length places - i
+μ-loop places lengths weights job₀ at₀ i₀ job at i = length places - i
+
+abbrev entered : tie.After-slice-known Inv-loop μ-loop → tie.Start Inv-loop μ-loop
+entered c = c .before .before .before
 
 abbrev start : tie.At-loop Inv-loop μ-loop → tie.Start Inv-loop μ-loop
-start c = c .before .before .before .before .before
+start a = entered (a .before)
 
-abbrev placesOf : tie.At-loop Inv-loop μ-loop → List ℤ
-placesOf c = start c .args .places .now
+abbrev marks : tie.At-loop Inv-loop μ-loop → Strip
+marks a = strip (start a .args .places .now) (start a .args .lengths .now) (start a .args .weights .now)
 
-abbrev lengthsOf : tie.At-loop Inv-loop μ-loop → List ℕ
-lengthsOf c = start c .args .lengths .now
-
-abbrev weightsOf : tie.At-loop Inv-loop μ-loop → List ℕ
-weightsOf c = start c .args .weights .now
-
--- the place that was read is that of the dot
-here : (c : tie.After-dot-of Inv-loop μ-loop) → getD (placesOf (c .before .before .before)) (c .before .before .before .loop .i) (pos 0) ≡ placeOf (c .dot-of .result)
-here c =
-    let a = c .before .before .before in
-    let z = getD (placesOf a) (a .loop .i) (pos 0) in
-    let m = c .before .dot-of-arg .given in
-    sym (ap placeOf (c .dot-of .ensures ∙ ap dot (fetched z m)) ∙ place-of-dot z m)
-
--- the records that are left, that of the mark, and those after it
-abbrev leftOf : tie.At-loop Inv-loop μ-loop → List ℕ
-leftOf a = recordsFrom (placesOf a) (lengthsOf a) (weightsOf a) (a .loop .before) (a .loop .i)
-
-abbrev own : tie.At-loop Inv-loop μ-loop → ℕ → List ℕ
-own a step = recordOf (lengthsOf a) (weightsOf a) (a .loop .i) step
-
-abbrev others : tie.At-loop Inv-loop μ-loop → ℕ → List ℕ
-others a d = recordsFrom (placesOf a) (lengthsOf a) (weightsOf a) d (a .loop .i + 1)
-
-splits : (c : tie.After-step-to Inv-loop μ-loop) → leftOf (c .before .before .before .before .before) ≡ own (c .before .before .before .before .before) (c .step-to .result) ++ others (c .before .before .before .before .before) (c .before .before .dot-of .result)
-splits c =
-    let q = c .before .before in
-    let a = q .before .before .before in
-    encode-turn (placesOf a) (lengthsOf a) (weightsOf a) (a .loop .before) (q .dot-of .result) (a .loop .i) (omega arith) (omega arith) (omega arith) (here q) (c .step-to .result) (c .step-to .ensures)
-
-first-dot-requires : tie.Need-first-dot-requires Inv-loop μ-loop
-first-dot-requires c κs = search needs
+-- the turn in which a record is put
+abbrev turn : tie.After-record-at Inv-loop μ-loop → tie.At-loop Inv-loop μ-loop
+turn c = c .before .before .before
 
 loop-holds : tie.Need-loop-holds Inv-loop μ-loop
-loop-holds c =
-    let s = c .before .before .before .before in
-    (omega arith, refl, rw (c .first-dot .ensures .0) (s .pre .2), rw (c .first-dot .ensures .0) (s .pre .3), rw (c .first-dot .ensures .0) refl)
+loop-holds c = record { counted = omega arith; putting = record { as-long = refl; room = entered c .pre .1; stores = refl } }
 
-mul-dot-of : tie.Need-mul-dot-of Inv-loop μ-loop
-mul-dot-of c = omega arith
-
-shared-slice-copy-out-dot-of : tie.Need-shared-slice-copy-out-dot-of Inv-loop μ-loop
-shared-slice-copy-out-dot-of c = omega arith
-
-dot-of-requires : tie.Need-dot-of-requires Inv-loop μ-loop
-dot-of-requires c κs = search needs
-
-step-to-requires : tie.Need-step-to-requires Inv-loop μ-loop
-step-to-requires c κs =
-    let q = c .before in
-    let a = q .before .before .before in
-    writable-turn (placesOf a) (lengthsOf a) (weightsOf a) (a .loop .before) (q .dot-of .result) (a .loop .i) (omega arith) (omega arith) (omega arith) (here q) (a .loop .inv .2) .0 .follows
-
-shared-slice-read-put-record : tie.Need-shared-slice-read-put-record Inv-loop μ-loop
-shared-slice-read-put-record c = omega arith
-
-mul-put-record : tie.Need-mul-put-record Inv-loop μ-loop
-mul-put-record c = omega arith
-
-shared-slice-read-put-record-2 : tie.Need-shared-slice-read-put-record-2 Inv-loop μ-loop
-shared-slice-read-put-record-2 c = omega arith
+record-at-requires : tie.Need-record-at-requires Inv-loop μ-loop
+record-at-requires c κs = (start (c .before .before) .pre .0, omega arith)
 
 put-record-requires : tie.Need-put-record-requires Inv-loop μ-loop
 put-record-requires c κs =
-    let t = c .before .before in
-    let q = t .before .before in
-    let a = q .before .before .before in
-    omega (arith, a .loop .inv .1, room-turn (leftOf a) (own a (t .step-to .result)) (others a (q .dot-of .result)) (splits t) (a .loop .at) (length (start a .args .job .now)) (a .loop .inv .3))
+    let a = turn c in
+    own-room (marks a) (start a .pre .0) (a .loop .i) (omega arith) (c .record-at .result) (c .record-at .ensures) (a .loop .inv .putting)
 
 add-i : tie.Need-add-i Inv-loop μ-loop
 add-i c = omega arith
@@ -113,25 +51,22 @@ loop-less c = omega arith
 
 loop-again : tie.Need-loop-again Inv-loop μ-loop
 loop-again c =
-    let p = c .before .before in
-    let t = p .before .before .before in
-    let q = t .before .before in
-    let a = q .before .before .before in (
-      omega arith,
-      put-length (a .loop .job) (own a (t .step-to .result)) (p .put-record .last .0) (a .loop .at) (p .put-record .result) (p .put-record .ensures) ∙ a .loop .inv .1,
-      writable-turn (placesOf a) (lengthsOf a) (weightsOf a) (a .loop .before) (q .dot-of .result) (a .loop .i) (omega arith) (omega arith) (omega arith) (here q) (a .loop .inv .2) .1,
-      room-left (leftOf a) (own a (t .step-to .result)) (others a (q .dot-of .result)) (splits t) (a .loop .job) (p .put-record .last .0) (a .loop .at) (p .put-record .result) (length (start a .args .job .now)) (p .put-record .ensures) (a .loop .inv .3),
-      a .loop .inv .4 ∙ put-turn (leftOf a) (own a (t .step-to .result)) (others a (q .dot-of .result)) (splits t) (a .loop .job) (p .put-record .last .0) (a .loop .at) (p .put-record .result) (p .put-record .ensures),
-    )
+    let p : tie.After-put-record Inv-loop μ-loop = c .before .before in
+    let q = p .before in
+    let a = turn q in
+    record {
+      counted = omega arith;
+      putting = putting-next (marks a) (start a .pre .0) (a .loop .i) (omega arith) (q .record-at .result) (q .record-at .ensures)
+          (a .loop .inv .putting) (p .put-record .ensures);
+    }
 
 same-length : tie.Need-same-length Inv-loop μ-loop
-same-length c = c .before .loop .inv .1
+same-length c = c .before .loop .inv .putting .as-long
 
 returns : tie.Need-returns Inv-loop μ-loop
 returns c =
     let a = c .before in
-    let e : a .loop .i ≡ length (placesOf a) = omega arith in
-    sym (a .loop .inv .4 ∙ ap (sets (a .loop .job) (a .loop .at)) (encode-over (placesOf a) (lengthsOf a) (weightsOf a) (a .loop .before) (a .loop .i) e))
+    putting-ends (marks a) (a .loop .i) _ _ (a .loop .at) (omega arith) (a .loop .inv .putting)
 
 pub put-records-spec : {M : Type 1} → statement M
 put-records-spec =
@@ -139,15 +74,8 @@ put-records-spec =
     (tie.spec
     Inv-loop
     μ-loop
-    first-dot-requires
     loop-holds
-    mul-dot-of
-    shared-slice-copy-out-dot-of
-    dot-of-requires
-    step-to-requires
-    shared-slice-read-put-record
-    mul-put-record
-    shared-slice-read-put-record-2
+    record-at-requires
     put-record-requires
     add-i
     loop-less

@@ -1,5 +1,6 @@
 -- `job::writer::put_word` meets its contract: two stores.
-use mathlib.Core.Path.{refl}
+use mathlib.Core.Path.{_≡_, refl}
+use Prim.Native.Nat.{_/_, _%_}
 use native.Mathlib.Numerals.{add-one}
 use native.Mathlib.Omega.{arith}
 use lib.ListN.{length-set}
@@ -27,7 +28,9 @@ same-length : tie.Need-same-length
 same-length c = search needs
 
 returns : tie.Need-returns
-returns c = rw (bytes-two (c .args .value), add-one) refl
+returns c =
+    let high : c .args .value / 256 % 256 ≡ c .args .value / 256 = omega arith in
+    rw (bytes-two (c .args .value), high, add-one) refl
 
 pub put-word-spec : {M : Type 1} → statement M
 put-word-spec =

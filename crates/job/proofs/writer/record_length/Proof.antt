@@ -1,6 +1,6 @@
 -- `job::writer::record_length` meets its contract: the map byte and the three fields.
 use native.Mathlib.Omega.{arith}
-use Rattle.job.proofs.Encoding.{record-size}
+use Rattle.job.proofs.RecordBytes.{record-size}
 use borrow.Author.Needs.{needs}
 use Rattle.job.proofs.writer.record_length.Statement.{statement}
 use Rattle.job.proofs.writer.record_length.Tie as tie
@@ -25,8 +25,8 @@ add-result-3 c = search needs
 
 returns : tie.Need-returns
 returns c =
-    let a = c .before .before .before .args in
-    (rw (record-size (a .step) (a .length) (a .weight)) (omega arith), omega arith)
+    let one = c .before .before .before .args .one in
+    (omega (arith, record-size (one .step) (one .length) (one .weight)), omega arith)
 
 pub record-length-spec : {M : Type 1} → statement M
 record-length-spec =

@@ -6,52 +6,37 @@ use borrow.Author.Needs.{needs}
 use Rattle.listing.proofs.text.put_number.Statement.{statement}
 use Rattle.listing.proofs.text.put_number.Tie as tie
 
-put-digit-requires : tie.Need-put-digit-requires
-put-digit-requires c κs = search needs
+-- each digit from the one behind it
+abbrev tens : tie.After-put-byte → tie.After-put-digit4
+tens c = let asked = c .before .before in asked .before .before
 
-put-digit-requires-2 : tie.Need-put-digit-requires-2
-put-digit-requires-2 c κs = search needs
+abbrev hundreds : tie.After-put-digit4 → tie.After-put-digit3
+hundreds c = let asked = c .before .before in asked .before .before
 
-put-digit-requires-3 : tie.Need-put-digit-requires-3
-put-digit-requires-3 c κs = search needs
+abbrev thousands : tie.After-put-digit3 → tie.After-put-digit2
+thousands c = let asked = c .before .before in asked .before .before
 
-put-digit-requires-4 : tie.Need-put-digit-requires-4
-put-digit-requires-4 c κs = search needs
-
-cast-put-byte : tie.Need-cast-put-byte
-cast-put-byte c = search needs
-
-add-put-byte : tie.Need-add-put-byte
-add-put-byte c = search needs
-
-put-byte-requires : tie.Need-put-byte-requires
-put-byte-requires c κs = search needs
-
-same-length : tie.Need-same-length
-same-length c = search needs
+abbrev most : tie.After-put-digit2 → tie.After-put-digit
+most c = let asked = c .before .before in asked .before .before
 
 returns : tie.Need-returns
 unfolding decimal
 returns c =
-    let first = c .before .before .before .before .before .before .before .before .before .before .before .before .before .before .before .before .before .before .put-digit in
-    let second = c .before .before .before .before .before .before .before .before .before .before .before .before .before .before .put-digit2 in
-    let third = c .before .before .before .before .before .before .before .before .before .before .put-digit3 in
-    let fourth = c .before .before .before .before .before .before .put-digit4 in
-    let last = c .before .before .put-byte in (
-      appended-join (appended-join (appended-join (appended-join (first .ensures .0) (second .ensures .0)) (third .ensures .0)) (fourth .ensures .0)) (last .ensures),
-      omega (arith, first .ensures .1, second .ensures .1, third .ensures .1, fourth .ensures .1, last .ensures .next-is),
+    let last = c .before .before in
+    let ten = tens last in
+    let hundred = hundreds ten in
+    let thousand = thousands hundred in
+    let first = most thousand .put-digit .ensures in
+    let second = thousand .put-digit2 .ensures in
+    let third = hundred .put-digit3 .ensures in
+    let fourth = ten .put-digit4 .ensures in
+    let fifth = last .put-byte .ensures in (
+      appended-join (appended-join (appended-join (appended-join (first .0) (second .0)) (third .0)) (fourth .0)) fifth,
+      omega (arith, first .1, second .1, third .1, fourth .1, fifth .next-is),
     )
 
 pub put-number-spec : {M : Type 1} → statement M
 put-number-spec =
     tie.close
-    (tie.spec
-    put-digit-requires
-    put-digit-requires-2
-    put-digit-requires-3
-    put-digit-requires-4
-    cast-put-byte
-    add-put-byte
-    put-byte-requires
-    same-length
-    returns)
+    (tie.spec (λ c κs. search needs) (λ c κs. search needs) (λ c κs. search needs) (λ c κs. search needs) (λ c. search needs) (λ c. search needs)
+    (λ c κs. search needs) (λ c. search needs) returns)

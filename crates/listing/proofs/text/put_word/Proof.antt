@@ -11,13 +11,16 @@ use Rattle.listing.proofs.text.put_word.Tie as tie
 
 abbrev Inv-loop : tie.InvT-loop
 Inv-loop buffer₀ at word i₀ buffer i =
-    (i ≤ length word) × (at + length word ≤ length buffer₀) × (length buffer ≡ length buffer₀) × Appended buffer₀ at (take i word) buffer (at + i)
+    (i ≤ length word) × (at + length word ≤ length buffer₀) × (length buffer ≡ length buffer₀)
+    × Appended buffer₀ at (take i word) buffer (at + i)
 
 abbrev μ-loop : tie.MeasureT-loop
 μ-loop buffer₀ at word i₀ buffer i = length word - i
 
 loop-holds : tie.Need-loop-holds Inv-loop μ-loop
-loop-holds c = (omega arith, omega arith, refl, let e : c .args .at + 0 ≡ c .args .at = omega arith in rw e (appended-none (c .args .buffer .now) (c .args .at)))
+loop-holds c =
+    let e : c .args .at + 0 ≡ c .args .at = omega arith in
+    (omega arith, omega arith, refl, rw e (appended-none (c .args .buffer .now) (c .args .at)))
 
 shared-slice-read-buffer : tie.Need-shared-slice-read-buffer Inv-loop μ-loop
 shared-slice-read-buffer c = omega arith
@@ -35,12 +38,15 @@ loop-less : tie.Need-loop-less Inv-loop μ-loop
 loop-less c = omega arith
 
 loop-again : tie.Need-loop-again Inv-loop μ-loop
-loop-again c = (
-  omega arith,
-  omega arith,
-  simp length-set (c .before .before .loop .inv .2),
-  appended-more (c .before .before .before .args .buffer .now) (c .before .before .before .args .at) (c .before .before .loop .i) (c .before .before .before .args .word .now) (c .before .before .loop .buffer) (c .before .before .loop .inv .3) (omega arith) (omega arith),
-)
+loop-again c =
+    let turn = c .before .before in
+    let lent = turn .before .args in
+    let so-far = turn .loop .inv in (
+      omega arith,
+      omega arith,
+      simp length-set (so-far .2),
+      appended-more (lent .buffer .now) (lent .at) (turn .loop .i) (lent .word .now) (turn .loop .buffer) (so-far .3) (omega arith) (omega arith),
+    )
 
 add-result : tie.Need-add-result Inv-loop μ-loop
 add-result c = omega arith
@@ -50,7 +56,8 @@ same-length c = c .before .loop .inv .2
 
 returns : tie.Need-returns Inv-loop μ-loop
 returns c =
-    let e : take (c .before .loop .i) (c .before .before .args .word .now) ≡ c .before .before .args .word .now = take-all (c .before .loop .i) (c .before .before .args .word .now) (omega arith) in
+    let word = c .before .before .args .word .now in
+    let e : take (c .before .loop .i) word ≡ word = take-all (c .before .loop .i) word (omega arith) in
     rw e at (c .before .loop .inv .3)
 
 pub put-word-spec : {M : Type 1} → statement M

@@ -3,25 +3,40 @@ use mathlib.Core.Path.{_≡_, _∙_, ap}
 use Prim.Native.Nat.{ℕ, _+_}
 use native.Mathlib.Omega.{arith}
 use borrow.Author.Needs.{needs}
-use lib.IntN.{pos}
+use lib.IntN.{ℤ, pos}
 use lib.ListN.{getD}
 use Rattle.geometry.specs.Dot.{dot}
 use Rattle.geometry.proofs.Dots.{fetched}
-use Rattle.slide.proofs.StripTable.{dot-range, label-range, table-last, table-row-more}
+use Rattle.slide.proofs.PlainMarks.{label-at}
+use Rattle.slide.proofs.RowByRow.{table-last, table-before}
 use Rattle.slide.proofs.table.fill_mark.Statement.{statement}
 use Rattle.slide.proofs.table.fill_mark.Tie as tie
 
--- the dots of the two places that were read
-abbrev start : tie.After-dot-of → tie.Start
-start c = c .before .before .before .before .before .before
+-- the start, from the test of the last mark; where the first and the second dot are read
+abbrev start : tie.After-slice-known → tie.Start
+start c = c .before .before
 
-first-dot : (c : tie.After-dot-of) → c .dot-of .result ≡ dot (getD (start c .args .places .now) (start c .args .k) (pos 0))
-first-dot c = c .dot-of .ensures ∙ ap dot (fetched (getD (start c .args .places .now) (start c .args .k) (pos 0)) (c .before .dot-of-arg .given))
+abbrev not-last : tie.After-dot-of → tie.Else1
+not-last c = c .before .before .before
 
-second-dot : (c : tie.After-dot-of2) → c .dot-of2 .result ≡ dot (getD (start (c .before .before .before) .args .places .now) (start (c .before .before .before) .args .k + 1) (pos 0))
+abbrev first : tie.After-dot-of2 → tie.After-dot-of
+first c = c .before .before .before
+
+abbrev start-of : tie.After-dot-of → tie.Start
+start-of c = start (not-last c .before)
+
+-- the place at an index
+abbrev place : tie.Start → ℕ → ℤ
+place s i = getD (s .args .places .now) i (pos 0)
+
+-- the dots of the two places that are read
+first-dot : (c : tie.After-dot-of) → c .dot-of .result ≡ dot (place (start-of c) (start-of c .args .k))
+first-dot c = c .dot-of .ensures ∙ ap dot (fetched (place (start-of c) (start-of c .args .k)) (c .before .dot-of-arg .given))
+
+second-dot : (c : tie.After-dot-of2) → c .dot-of2 .result ≡ dot (place (start-of (first c)) (start-of (first c) .args .k + 1))
 second-dot c =
-    let s = start (c .before .before .before) in
-    c .dot-of2 .ensures ∙ ap dot (fetched (getD (s .args .places .now) (s .args .k + 1) (pos 0)) (c .before .dot-of-arg2 .given))
+    let s : tie.Start = start-of (first c) in
+    c .dot-of2 .ensures ∙ ap dot (fetched (place s (s .args .k + 1)) (c .before .dot-of-arg2 .given))
 
 mul-row : tie.Need-mul-row
 mul-row c = search needs
@@ -34,14 +49,20 @@ shared-slice-read-fill-last c = search needs
 
 fill-last-requires : tie.Need-fill-last-requires
 fill-last-requires c κs =
-    let checked = c .before .before .before .before .before .pre .0 in
-    let small = label-range _ _ checked _ (c .before .before .before .before .before .pre .1) in omega (arith, checked .few)
+    let last : tie.Then1 = c .before .before in
+    let s : tie.Start = start (last .before) in
+    let checked = s .pre .checked in
+    omega (arith, checked .few, label-at _ _ checked (s .args .k) (s .pre .within))
 
 same-length : tie.Need-same-length
 same-length c = search needs
 
 returns : tie.Need-returns
-returns c = table-last _ _ (c .before .before .before .before .before .before .before .before .pre .0) _ _ _ (c .before .before .before .before .before .if1 .taken) (c .before .before .fill-last .ensures)
+returns c =
+    let filled : tie.After-fill-last = c .before .before in
+    let last : tie.Then1 = filled .before .before .before in
+    let s : tie.Start = start (last .before) in
+    table-last _ _ (s .pre .checked) _ _ (s .args .k) (s .pre .within) (omega arith) (filled .fill-last .ensures)
 
 mul-dot-of : tie.Need-mul-dot-of
 mul-dot-of c = search needs
@@ -75,19 +96,22 @@ shared-slice-read-fill-row-2 c = search needs
 
 fill-row-requires : tie.Need-fill-row-requires
 fill-row-requires c κs =
-    let s : tie.Start = start (c .before .before .before .before) in
-    let checked = s .pre .0 in
-    let k : ℕ = s .args .k in
-    omega (arith, checked .few, first-dot (c .before .before .before .before), second-dot (c .before), dot-range _ _ checked k (s .pre .1), label-range _ _ checked k (s .pre .1), dot-range _ _ checked (k + 1) (omega arith), label-range _ _ checked (k + 1) (omega arith))
+    let s : tie.Start = start-of (first (c .before)) in
+    let checked = s .pre .checked in
+    let here = label-at _ _ checked (s .args .k) (s .pre .within) in
+    let next = label-at _ _ checked (s .args .k + 1) (omega arith) in
+    (omega (arith, checked .few), rw (first-dot (first (c .before))) here, rw (second-dot (c .before)) next)
 
 same-length-2 : tie.Need-same-length-2
 same-length-2 c = search needs
 
 returns-2 : tie.Need-returns-2
 returns-2 c =
-    let first : tie.After-dot-of = c .before .before .before .before .before .before .before in
-    let s = start first in
-    table-row-more _ _ (s .pre .0) _ _ _ _ _ (first-dot first) (second-dot (c .before .before .before .before)) (omega arith) (s .pre .3) (c .before .before .fill-row .ensures)
+    let filled : tie.After-fill-row = c .before .before in
+    let second : tie.After-dot-of2 = filled .before .before in
+    let s : tie.Start = start-of (first second) in
+    table-before _ _ (s .pre .checked) _ _ (s .args .k) (s .pre .within) _ _ (first-dot (first second)) (second-dot second) (omega arith) (s .pre .behind)
+    (filled .fill-row .ensures)
 
 pub fill-mark-spec : {M : Type 1} → statement M
 fill-mark-spec =

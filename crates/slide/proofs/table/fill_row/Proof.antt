@@ -1,19 +1,25 @@
 -- `slide::table::fill_row` meets its contract: after d turns the first d cells are right, and the scan may go on where it stopped.
-use mathlib.Core.Path.{_≡_}
 use Prim.Native.Nat.{_+_, _≤_, _-_}
 use native.Mathlib.Omega.{arith}
 use borrow.Author.Needs.{needs}
 use Rattle.slide.specs.inner.Plain.{plainMark}
-use Rattle.slide.proofs.Rows.{Scanned, scanned-none, found-within, scanned-more}
+use Rattle.slide.proofs.FilledRows.{filled-whole, Scanned, scanned-none, found-within, scanned-more}
 use Rattle.slide.proofs.table.fill_row.Statement.{statement}
 use Rattle.slide.proofs.table.fill_row.Tie as tie
 
 abbrev Inv-loop : tie.InvT-loop
 Inv-loop work₀ row place length next-place next-length next last slides₀ d₀ work slides d =
-    (d ≤ length + 1) × Scanned work₀ work row place (plainMark next-place next-length) d slides
+    Scanned work₀ work row place (plainMark next-place next-length) d slides × (d ≤ length + 1)
 
 abbrev μ-loop : tie.MeasureT-loop
 μ-loop work₀ row place length next-place next-length next last slides₀ d₀ work slides d = length + 1 - d
+
+-- in one turn: where the slide is found and the cell on its own side is read
+abbrev found : tie.After-own-side Inv-loop μ-loop → tie.After-furthest-slide Inv-loop μ-loop
+found c = c .before .before
+
+abbrev turn : tie.After-own-side Inv-loop μ-loop → tie.At-loop Inv-loop μ-loop
+turn c = found c .before .before .before
 
 add-next : tie.Need-add-next Inv-loop μ-loop
 add-next c = omega arith
@@ -22,7 +28,7 @@ add-slides : tie.Need-add-slides Inv-loop μ-loop
 add-slides c = omega arith
 
 loop-holds : tie.Need-loop-holds Inv-loop μ-loop
-loop-holds c = (omega arith, scanned-none _ _ _ _)
+loop-holds c = (scanned-none _ _ _ _ _ _ (omega arith) (omega arith), omega arith)
 
 cast-reach : tie.Need-cast-reach Inv-loop μ-loop
 cast-reach c = omega arith
@@ -37,10 +43,13 @@ own-side-requires : tie.Need-own-side-requires Inv-loop μ-loop
 own-side-requires c κs = omega arith
 
 other-side-requires : tie.Need-other-side-requires Inv-loop μ-loop
-other-side-requires c κs = (omega arith, omega arith, found-within _ _ _ _ _ _ _ _ 0 0 0 (c .before .before .before .before .before .loop .inv .1) (c .before .before .furthest-slide .ensures))
+other-side-requires c κs = (
+  turn c .before .before .pre .2,
+  found-within _ _ _ _ _ _ _ _ (turn c .loop .inv .0) (found c .furthest-slide .ensures),
+)
 
-greater-requires : tie.Need-greater-requires Inv-loop μ-loop
-greater-requires c κs = search needs
+larger-u16-requires : tie.Need-larger-u16-requires Inv-loop μ-loop
+larger-u16-requires c κs = search needs
 
 add-work : tie.Need-add-work Inv-loop μ-loop
 add-work c = omega arith
@@ -54,17 +63,22 @@ slice-write-work c = omega arith
 add-d : tie.Need-add-d Inv-loop μ-loop
 add-d c = omega arith
 
+loop-again : tie.Need-loop-again Inv-loop μ-loop
+loop-again c =
+    let read : tie.After-own-side Inv-loop μ-loop = c .before .before in (
+      scanned-more _ _ _ _ _ (turn read .loop .d) _ _ (turn read .loop .inv .0) (found read .furthest-slide .ensures) _ _ _ _
+          (read .own-side .ensures) (c .before .other-side .ensures) (c .larger-u16 .ensures) (omega arith) (omega arith) (omega arith),
+      omega arith,
+    )
+
 loop-less : tie.Need-loop-less Inv-loop μ-loop
 loop-less c = omega arith
 
-loop-again : tie.Need-loop-again Inv-loop μ-loop
-loop-again c = (omega arith, scanned-more _ _ _ _ _ _ _ _ _ _ _ (c .before .before .before .before .before .before .before .loop .inv .1) (c .before .before .before .before .furthest-slide .ensures) (c .before .before .own-side .ensures) (c .before .other-side .ensures) (c .greater .ensures) (omega arith) (omega arith))
-
 same-length : tie.Need-same-length Inv-loop μ-loop
-same-length c = c .before .loop .inv .1 .filled .same-length
+same-length c = c .before .loop .inv .0 .filled .same-length
 
 returns : tie.Need-returns Inv-loop μ-loop
-returns c = let e : c .before .loop .d ≡ c .before .before .before .args .length + 1 = omega arith in rw (← e) (c .before .loop .inv .1 .filled)
+returns c = filled-whole _ (c .before .loop .inv .0 .filled) (omega arith)
 
 pub fill-row-spec : {M : Type 1} → statement M
 fill-row-spec =
@@ -80,7 +94,7 @@ fill-row-spec =
     furthest-slide-requires
     own-side-requires
     other-side-requires
-    greater-requires
+    larger-u16-requires
     add-work
     mul-work
     slice-write-work

@@ -9,9 +9,6 @@ sub-start c = omega arith
 returns : tie.Need-returns
 returns c = omega arith
 
-cast-result : tie.Need-cast-result
-cast-result c = omega arith
-
 sub-result : tie.Need-sub-result
 sub-result c = omega arith
 
@@ -19,4 +16,4 @@ returns-2 : tie.Need-returns-2
 returns-2 c = omega arith
 
 pub slid-spec : {M : Type 1} → statement M
-slid-spec = tie.close (tie.spec sub-start returns sub-result cast-result returns-2)
+slid-spec = tie.close (tie.spec sub-start returns sub-result returns-2)

@@ -1,0 +1,101 @@
+-- The best pass meets its contract.
+-- A number that is not 0 is that of the first check that is not passed, and nothing has been touched. Number 0 says that checks 6 to 10
+-- are passed, so the places rise; then the walk's choice is overlap-free and earns the best sum, and the zeros among the position
+-- numbers are the marks left out.
+use mathlib.Core.Path.{_≡_, refl, sym, _∙_, ap}
+use mathlib.Core.List.{List, map}
+use Prim.Native.Nat.{ℕ, _≤_, min}
+use native.Mathlib.Omega.{arith}
+use lib.ListN.{length, take, drop, length-map}
+use lib.Seq.{take-at}
+use Rattle.geometry.specs.Strip.{Strip, marksOf, mostShort}
+use Rattle.geometry.specs.Pass.{passVerdict, written}
+use Rattle.geometry.specs.Position.{code}
+use Rattle.geometry.specs.Refusal.{accepted, numberOf}
+use Rattle.geometry.proofs.Accepted.{Accepted, pass-accepted, accepted-rising, length-marks}
+use Rattle.geometry.proofs.Verdicts.{zero-accepted}
+use Rattle.best.specs.Best.{workNamed, BestLent, bestChecks, BestContract}
+use Rattle.best.specs.inner.Worth.{wholeChoice}
+use Rattle.best.specs.inner.Checked.{Checked, Labelled}
+use Rattle.best.specs.inner.Zeros.{zerosFrom}
+use Rattle.best.proofs.WorthIsBest.{best-free, best-earns, best-length, worth-best}
+use Rattle.best.proofs.ZerosAreLeftOut.{zeros-left-out}
+
+module _ (s : Strip) (entry : BestLent) (n : ℕ) where
+  -- the number, where the shorter answer list has been found
+  pub number-found : (shortest : ℕ) → shortest ≡ min (length (entry .positions)) (length (entry .left-out))
+      → n ≡ numberOf (passVerdict mostShort s shortest workNamed (length (entry .work))) → n ≡ numberOf (bestChecks s entry)
+  number-found shortest e h = h ∙ ap (λ (l : ℕ). numberOf (passVerdict mostShort s l workNamed (length (entry .work)))) e
+
+  -- refused: the number is that of the checks, and all else is 0 or unchanged
+  pub answer-refused : n ≡ numberOf (bestChecks s entry) → (n ≡ 0 → ⊥) → BestContract s entry entry (record { number = n; sum = 0; count = 0 })
+  answer-refused e no-zero =
+      record {
+        number-is = e;
+        where-refused = λ _.
+            record { sum-zero = refl; count-zero = refl; positions-unchanged = refl; left-out-unchanged = refl; work-unchanged = refl };
+        where-accepted = λ a. absurd (no-zero (e ∙ ap numberOf a));
+      }
+
+  -- number 0 is acceptance
+  pub zero-passes : n ≡ numberOf (bestChecks s entry) → n ≡ 0 → bestChecks s entry ≡ accepted
+  zero-passes e z = zero-accepted (bestChecks s entry) (sym e ∙ z)
+
+module _ (s : Strip) (entry : BestLent) (ok : bestChecks s entry ≡ accepted) where
+  -- what the checks bring: a strip that is accepted, answer lists and a work area that are long enough
+  passed : Accepted mostShort s × (length (s .places) ≤ min (length (entry .positions)) (length (entry .left-out))) × (workNamed ≤ length (entry .work))
+  passed = pass-accepted mostShort s (min (length (entry .positions)) (length (entry .left-out))) workNamed (length (entry .work)) ok
+
+  -- in the form in which the pass asks for it
+  pub accepted-checked : Checked s (entry .work)
+  accepted-checked =
+      let a = passed .0 in
+      record {
+        same-lengths = a .same-lengths;
+        same-weights = a .same-weights;
+        few = a .few;
+        places-good = a .places-good;
+        weights-good = a .weights-good;
+        roomy = passed .2;
+      }
+
+  pub lists-enough : (length (s .places) ≤ length (entry .positions)) × (length (s .places) ≤ length (entry .left-out))
+  lists-enough = omega (arith, passed .1)
+
+  -- the choice of the walk as position numbers, one for each mark
+  abbrev codes : List ℕ
+  codes = map code (wholeChoice 0 s)
+
+  codes-length : length codes ≡ length (s .places)
+  codes-length =
+      let a = passed .0 in
+      length-map (wholeChoice 0 s) code ∙ best-length 0 _ _ (marksOf s) ∙ length-marks s (a .same-lengths) (a .same-weights)
+
+  -- accepted: from what labelling leaves, and from the zeros that were listed
+  pub answer-accepted : (exit : BestLent) (sum count : ℕ)
+      → Labelled s (entry .positions) (exit .positions) (entry .work) (exit .work) sum
+      → exit .left-out ≡ written (zerosFrom 1 (take (length (s .places)) (exit .positions))) (entry .left-out)
+      → count ≡ length (zerosFrom 1 (take (length (s .places)) (exit .positions)))
+      → BestContract s entry exit (record { number = 0; sum = sum; count = count })
+  answer-accepted exit sum count labelled listed counted =
+      let rising = accepted-rising mostShort s (passed .0) in
+      let used : take (length (s .places)) (exit .positions) ≡ codes =
+      ap (take (length (s .places))) (labelled .positions-written)
+      ∙ take-at codes (drop (length codes) (entry .positions)) (length (s .places)) codes-length in
+      record {
+        number-is = sym (ap numberOf ok);
+        where-refused = λ no. absurd (no ok);
+        where-accepted = λ _.
+            record {
+              choice = wholeChoice 0 s;
+              positions-written = labelled .positions-written;
+              overlap-free = best-free 0 (marksOf s) rising;
+              sum-earned = labelled .sum-is ∙ sym (best-earns 0 _ _ (marksOf s));
+              sum-best = labelled .sum-is ∙ worth-best 0 (marksOf s) rising;
+              out = zerosFrom 1 codes;
+              out-listed = zeros-left-out (wholeChoice 0 s);
+              out-written = listed ∙ ap (λ (l : List ℕ). written (zerosFrom 1 l) (entry .left-out)) used;
+              out-counted = counted ∙ ap (λ (l : List ℕ). length (zerosFrom 1 l)) used;
+              work-cleared = labelled .work-cleared;
+            };
+      }

@@ -1,0 +1,86 @@
+-- Best and full on one strip. Past its checks the best pass lists an overlap-free choice that earns the best sum, and no overlap-free
+-- choice exceeds that. Each weight is at least 1, so the choice has a label for each mark exactly if its sum is the weight of all marks;
+-- the best sum is that exactly if there is a placing, and the full pass gives 0 exactly if there is one.
+use mathlib.Core.Path.{_≡_, sym, _∙_, ap}
+use mathlib.Core.Bool.{true}
+use mathlib.Core.Logic.{_↔_, Iff·trans}
+use mathlib.Core.Option.{none}
+use Prim.Native.Nat.{ℕ, min}
+use lib.ListN.{length}
+use Rattle.geometry.specs.Lists.{sumList}
+use Rattle.geometry.specs.Strip.{Strip, marksOf, mostShort}
+use Rattle.geometry.specs.Overlap.{allLabelled}
+use Rattle.geometry.specs.Placing.{firstPlacing}
+use Rattle.geometry.specs.Refusal.{accepted}
+use Rattle.geometry.proofs.Verdicts.{zero-accepted}
+use Rattle.geometry.proofs.Accepted.{Accepted, pass-accepted}
+use Rattle.geometry.proofs.Best.{free-length, best-bounds}
+use Rattle.geometry.proofs.Whole.{weightsOf, weights-of-marks, heavy-marks, sum-of-all, all-earn, best-whole-iff-placing}
+use Rattle.full.specs.Full.{FullLent, fullChecks, FullContract}
+use Rattle.best.specs.declared.answer.Best.{Best}
+use Rattle.best.specs.Best.{workNamed, BestLent, bestChecks, AcceptedAnswer, BestContract}
+use Rattle.demands.specs.Demands.{BestChosen, BestAndFull}
+use Rattle.demands.proofs.FullNumber.{fits-exactly}
+
+-- a call of the best pass that gives 0
+module _ (s : Strip) (lent left : BestLent) (answer : Best) (call : BestContract s lent left answer) (zero : answer .number ≡ 0) where
+  -- number 0 says that the checks are passed
+  pub best-passed : bestChecks s lent ≡ accepted
+  best-passed = zero-accepted (bestChecks s lent) (sym (call .number-is) ∙ zero)
+
+  -- so the contract gives its answer
+  abbrev listed : AcceptedAnswer s lent left answer
+  listed = call .where-accepted best-passed
+
+  -- what it lists is a choice of the greatest sum, with its left-out marks
+  pub best-chosen : BestChosen s lent left answer
+  best-chosen =
+      record {
+        choice = listed .choice;
+        listed = listed .positions-written;
+        overlap-free = listed .overlap-free;
+        sum-earned = listed .sum-earned;
+        greatest = λ other overlap-free. rw (listed .sum-best) (best-bounds 0 (marksOf s) other overlap-free);
+        out = listed .out;
+        out-listed = listed .out-listed;
+        out-written = listed .out-written;
+        out-counted = listed .out-counted;
+      }
+
+  -- the strip is accepted
+  good : Accepted mostShort s
+  good = pass-accepted mostShort s (min (length (lent .positions)) (length (lent .left-out))) workNamed (length (lent .work)) best-passed .0
+
+  -- "The weight of all marks is the sum of the weight list."
+  whole : sumList (weightsOf (marksOf s)) ≡ sumList (s .weights)
+  whole = ap sumList (weights-of-marks s (good .same-lengths) (good .same-weights))
+
+  -- it is earned exactly by a label for each mark
+  all-exactly : (allLabelled (listed .choice) ≡ true) ↔ (answer .sum ≡ sumList (s .weights))
+  all-exactly =
+      let one-each = free-length 0 (marksOf s) (listed .choice) (listed .overlap-free) in (
+        λ all. listed .sum-earned ∙ sum-of-all (marksOf s) (listed .choice) one-each all ∙ whole,
+        λ earned.
+            all-earn (marksOf s) (listed .choice) (heavy-marks s (good .weights-good)) one-each
+            (sym (listed .sum-earned) ∙ earned ∙ sym whole),
+      )
+
+  -- and exactly where there is a placing
+  placing-exactly : (answer .sum ≡ sumList (s .weights)) ↔ (firstPlacing 0 (marksOf s) ≡ none → ⊥)
+  placing-exactly =
+      let b = best-whole-iff-placing 0 s (good .same-lengths) (good .same-weights) (good .weights-good) in
+      (λ earned. b .0 (sym (listed .sum-best) ∙ earned), λ found. listed .sum-best ∙ b .1 found)
+
+  -- with a call of the full pass that is past its checks
+  module _ (fullEntry fullExit : FullLent) (number : ℕ) (full-call : FullContract s fullEntry fullExit number)
+      (passed : fullChecks s fullEntry ≡ accepted) where
+    -- the best sum is the weight of all marks exactly if the full pass finds a fit
+    whole-exactly : (answer .sum ≡ sumList (s .weights)) ↔ (number ≡ 0)
+    whole-exactly =
+        let f = fits-exactly s fullEntry fullExit number full-call passed in
+        (λ earned. f .1 (placing-exactly .0 earned), λ fits. placing-exactly .1 (f .0 fits))
+
+    -- and the choice has a label for each mark exactly if it does
+    pub best-and-full : BestAndFull s lent left answer number
+    unfolding best-chosen
+    best-and-full = record { chosen = best-chosen; whole-exactly = whole-exactly; labels-all-exactly = Iff·trans all-exactly whole-exactly }

@@ -1,0 +1,151 @@
+-- The walk over the table is the walk of the definition. Before each mark the numbers written so far, followed by the walk from here on,
+-- are the whole walk's: at the mark the row picks what the definition picks, and the step leaves the reaches that the definition leaves.
+use mathlib.Core.Path.{_≡_, refl, sym, _∙_, ap, subst}
+use mathlib.Core.List.{List, [], _∷_, _++_, map, append-nil}
+use Prim.Native.Nat.{ℕ, _+_, _-_, _*_, _≤_, _<_}
+use native.Mathlib.Omega.{arith}
+use native.Mathlib.Numerals.{add-one}
+use lib.IntN.{ℤ, pos, negsuc}
+use lib.Signed.{mag}
+use lib.ListN.{length, getD, take, drop, set, length-set, drop-of-length-le}
+use lib.Seq.{append-snoc, length-take-le}
+use Rattle.geometry.specs.Dot.{dot, emptyReach}
+use Rattle.geometry.specs.Mark.{Mark}
+use Rattle.geometry.specs.Strip.{Strip, strip, marksOf}
+use Rattle.geometry.specs.Position.{Position, code}
+use Rattle.geometry.specs.inner.At.{markAt}
+use Rattle.geometry.proofs.Lent.{take-more, drop-more, written-whole}
+use Rattle.geometry.proofs.Accepted.{length-marks, marks-from}
+use Rattle.full.specs.inner.Rest.{pick, walk, pickByRow, Stepped}
+use Rattle.full.specs.inner.Row.{rowOf}
+use Rattle.full.specs.inner.Table.{AnyWeights, rowAt, WalkReady, Walked}
+use Rattle.full.proofs.Within.{Inside, Reach}
+use Rattle.full.proofs.RowPicks.{marks-inside, inside-drop, row-picks, row-number, next-some}
+
+-- the numbers of the positions that the walk takes from the mark with index i on, beside the reaches a and b
+abbrev pub numbersFrom : Strip → ℕ → ℕ → ℕ → List ℕ
+numbersFrom s i a b = map code (walk 0 a b (drop i (marksOf s)))
+
+-- what holds before the mark with index i
+pub record Walking (places : List ℤ) (lengths : List ℕ) (work : List ℤ) (entry positions : List ℕ) (above below : ℤ) (i : ℕ) : Type 0 where
+  pub ready : WalkReady places lengths work entry
+  pub inside : i ≤ length places
+  pub long : length positions ≡ length entry
+  pub above-some : emptyReach ≤ dot above
+  pub below-some : emptyReach ≤ dot below
+  pub above-held : mag above < 32768
+  pub below-held : mag below < 32768
+  pub so-far : AnyWeights places lengths (λ s. numbersFrom s 0 emptyReach emptyReach ≡ take i positions ++ numbersFrom s i (dot above) (dot below))
+  pub untouched : drop i positions ≡ drop i entry
+
+-- a reach held in 16 bits, no less than that of an empty side, is inside the coordinates
+held-reach : (z : ℤ) → emptyReach ≤ dot z → mag z < 32768 → Reach (dot z)
+held-reach (pos n) some held = record { some = some; inside = omega arith }
+held-reach (negsuc n) some held = record { some = some; inside = omega arith }
+
+module _ (places : List ℤ) (lengths : List ℕ) (work : List ℤ) (entry : List ℕ) where
+  -- before the first mark nothing is written and both sides are empty
+  pub walking-start : (above below : ℤ) → dot above ≡ emptyReach → dot below ≡ emptyReach → mag above < 32768 → mag below < 32768
+      → WalkReady places lengths work entry → Walking places lengths work entry entry above below 0
+  walking-start above below above-empty below-empty above-held below-held ready =
+      record {
+        ready = ready;
+        inside = omega arith;
+        long = refl;
+        above-some = omega arith;
+        below-some = omega arith;
+        above-held = above-held;
+        below-held = below-held;
+        so-far = λ ws same. rw (above-empty, below-empty) refl;
+        untouched = refl;
+      }
+
+  module _ (positions : List ℕ) (above below : ℤ) (i : ℕ) (w : Walking places lengths work entry positions above below i) where
+    -- the place of the mark here, and a number of its row
+    abbrev here : ℤ
+    here = getD places i (pos 0)
+
+    abbrev cell : ℕ → ℕ
+    cell n = dot (getD work n (pos 0))
+
+    -- the position that the numbers of the row pick
+    abbrev taken : Position
+    taken = pickByRow (dot above) (dot below) (dot here - getD lengths i 0) (dot here) (cell (4 * i)) (cell (4 * i + 1)) (cell (4 * i + 2))
+
+    module _ (more : i < length places) where
+      -- whatever the weights are, the row picks what the definition picks
+      module _ (ws : List ℕ) (same : length places ≡ length ws) where
+        -- the strip with these weights, and the marks behind the one here
+        abbrev whole : Strip
+        whole = strip places lengths ws
+
+        abbrev behind : List Mark
+        behind = drop (i + 1) (marksOf whole)
+
+        -- what is left is the mark here and those behind it, all inside the coordinates
+        from-here : drop i (marksOf whole) ≡ markAt whole i ∷ behind
+        from-here = rw (add-one i) (marks-from whole i (w .ready .ready .same-lengths) same more)
+
+        inside-here : Inside 0 (markAt whole i ∷ behind)
+        inside-here =
+            subst (Inside 0) from-here
+            (inside-drop 0 i (marksOf whole) (marks-inside whole (w .ready .ready .places-good) (w .ready .ready .lengths-good)))
+
+        -- the row in the work area is the mark's, so it picks what the definition picks
+        taken-is : taken ≡ pick 0 (dot above) (dot below) (markAt whole i) behind
+        taken-is =
+            let row = rowOf 0 (markAt whole i) behind in
+            let stored : map dot (rowAt work i) ≡ row = w .ready .rows ws same i (omega arith) more in
+            let first : 4 * i + 0 ≡ 4 * i = omega arith in
+            rw (
+              rw first at (row-number work i 0 row stored (omega arith)),
+              row-number work i 1 row stored (omega arith),
+              row-number work i 2 row stored (omega arith),
+            )
+            (row-picks (dot above) (dot below) (markAt whole i) behind (held-reach above (w .above-some) (w .above-held))
+            (held-reach below (w .below-some) (w .below-held)) inside-here)
+
+      module _ (position : ℕ) (above′ below′ : ℤ) (s : Stepped above below here (getD lengths i 0) taken position above′ below′) where
+        -- so the walk from here on begins with the number that the step gives
+        numbers-here : AnyWeights places lengths
+            (λ s. numbersFrom s i (dot above) (dot below) ≡ position ∷ numbersFrom s (i + 1) (dot above′) (dot below′))
+        unfolding walk
+        numbers-here ws same =
+            let weight = getD ws i 0 in
+            rw (from-here ws same, sym (taken-is ws same), s .position-is, s .above-is weight, s .below-is weight) refl
+
+        -- one mark more
+        pub walking-more : emptyReach ≤ dot here → Walking places lengths work entry (set positions i position) above′ below′ (i + 1)
+        walking-more placed =
+            let room = w .ready .places-for-all in
+            let long = w .long in
+            let mark : Mark = record { place = dot here; labelLength = getD lengths i 0; weight = 0 } in
+            let some = next-some taken mark (dot above) (dot below) (w .above-some) (w .below-some) placed in
+            record {
+              ready = w .ready;
+              inside = omega arith;
+              long = length-set positions i position ∙ long;
+              above-some = rw (s .above-is 0) (some .0);
+              below-some = rw (s .below-is 0) (some .1);
+              above-held = s .above-held;
+              below-held = s .below-held;
+              so-far = λ ws same.
+                  w .so-far ws same
+                  ∙ rw (numbers-here ws same, take-more i position positions (omega arith))
+                  (sym (append-snoc (take i positions) position (numbersFrom (strip places lengths ws) (i + 1) (dot above′) (dot below′))));
+              untouched = drop-more i position positions entry (w .untouched);
+            }
+
+    -- behind the last mark the numbers are those of the whole walk
+    pub walking-done : i ≡ length places → Walked places lengths entry positions
+    unfolding walk
+    walking-done all ws same =
+        let room = w .ready .places-for-all in
+        let long = w .long in
+        let s = strip places lengths ws in
+        let none-left : drop i (marksOf s) ≡ [] =
+        drop-of-length-le (marksOf s) {i = i} (omega (arith, length-marks s (w .ready .ready .same-lengths) same)) in
+        let numbers : take i positions ≡ numbersFrom s 0 emptyReach emptyReach =
+        sym (w .so-far ws same ∙ rw none-left (append-nil (take i positions))) in
+        written-whole i positions (numbersFrom s 0 emptyReach emptyReach) entry numbers (w .untouched)
+        (sym (ap length numbers) ∙ length-take-le i positions (omega arith))

@@ -1,0 +1,20 @@
+// The work area that the caller lends.
+ghost use mathlib.Core.Path.{_≡_};
+ghost use Prim.Native.Nat.{_≤_};
+ghost use lib.IntN.{pos};
+ghost use lib.ListN.{length};
+ghost use Rattle.geometry.specs.Pass.{cleared};
+ghost use Rattle.full.specs.Full.{workNamed};
+use crate::WORK_NAMED;
+
+// Puts zeros into its named part.
+pub fn clear(work: &mut [i16])
+    requires { ⌜ workNamed ≤ length (now work) ⌝ }
+    ensures { λ _. ⌜ now (work .exit) ≡ cleared workNamed (pos 0) (now (work .entry)) ⌝ }
+{
+    let mut i = 0;
+    while i < WORK_NAMED {
+        work[i] = 0;
+        i += 1;
+    }
+}

@@ -1,0 +1,79 @@
+-- The marks without their weights: what they are at each index, and that the label of each is a good one.
+use mathlib.Core.Path.{_≡_, refl, _∙_, ap}
+use mathlib.Core.Bool.{true}
+use mathlib.Core.List.{List, [], _∷_}
+use Prim.Native.Nat.{ℕ, zero, suc, _+_, _≤_, _<_}
+use native.Mathlib.Omega.{arith}
+use native.Mathlib.Numerals.{add-one}
+use borrow.Author.Tests.{leb-true}
+use lib.Dec.{leb}
+use lib.IntN.{ℤ, pos}
+use lib.ListN.{length, getD, drop, drop-of-length-le}
+use Rattle.geometry.specs.Dot.{dot}
+use Rattle.geometry.specs.Lists.{every}
+use Rattle.geometry.specs.Mark.{Mark, placeInRange, lengthInRange, mostLength}
+use Rattle.geometry.proofs.Split.{and-fst, and-snd}
+use Rattle.geometry.proofs.Accepted.{every-at, first-good, rest-good}
+use Rattle.geometry.proofs.Dots.{range-dots}
+use Rattle.slide.specs.inner.Plain.{plainMark, plainMarks, plainAt, Checked}
+use Rattle.slide.specs.inner.Room.{GoodLabel}
+use Rattle.slide.proofs.ExactCells.{Inside}
+
+-- the ranges of place and length leave dots enough on either side of the place
+good-label : (z : ℤ) (l : ℕ) → placeInRange z ≡ true → lengthInRange l ≡ true → GoodLabel (plainMark (dot z) l)
+good-label z l place label =
+    let dots = range-dots z place in
+    let short : l ≤ mostLength = leb-true l mostLength (and-snd (leb 1 l) _ label) in
+    record { some = leb-true 1 l (and-fst _ _ label); short = short; left = omega arith; right = omega arith }
+
+-- one mark for each place, and the mark at an index
+length-plain : (zs : List ℤ) (ls : List ℕ) → length ls ≡ length zs → length (plainMarks zs ls) ≡ length zs
+unfolding plainMarks
+length-plain [] ls e = refl
+length-plain (z ∷ zs) [] e = absurd (omega arith)
+length-plain (z ∷ zs) (l ∷ ls) e = ap suc (length-plain zs ls (omega arith))
+
+plain-at : (zs : List ℤ) (ls : List ℕ) (i : ℕ) → length ls ≡ length zs → i < length zs
+    → drop i (plainMarks zs ls) ≡ plainAt zs ls i ∷ drop (suc i) (plainMarks zs ls)
+unfolding plainMarks
+plain-at [] ls i e h = absurd (omega arith)
+plain-at (z ∷ zs) [] i e h = absurd (omega arith)
+plain-at (z ∷ zs) (l ∷ ls) zero e h = refl
+plain-at (z ∷ zs) (l ∷ ls) (suc i) e h = plain-at zs ls i (omega arith) (omega arith)
+
+-- every label lies inside the coordinates
+plain-inside : (zs : List ℤ) (ls : List ℕ) → every placeInRange zs ≡ true → every lengthInRange ls ≡ true → Inside 0 (plainMarks zs ls)
+unfolding plainMarks
+plain-inside [] ls p q = tt
+plain-inside (z ∷ zs) [] p q = tt
+plain-inside (z ∷ zs) (l ∷ ls) p q =
+    let label = good-label z l (first-good placeInRange z zs p) (first-good lengthInRange l ls q) in
+    (label .left, omega arith, plain-inside zs ls (rest-good placeInRange z zs p) (rest-good lengthInRange l ls q))
+
+pub inside-drop : (g i : ℕ) (ms : List Mark) → Inside g ms → Inside g (drop i ms)
+inside-drop g zero ms inside = inside
+inside-drop g (suc i) [] inside = tt
+inside-drop g (suc i) (m ∷ ms) inside = inside-drop g i ms (inside .2)
+
+module _ (places : List ℤ) (lengths : List ℕ) (checked : Checked places lengths) where
+  -- for a strip that passed the checks
+  pub marks-inside : Inside 0 (plainMarks places lengths)
+  marks-inside = plain-inside places lengths (checked .places-good) (checked .lengths-good)
+
+  pub marks-length : length (plainMarks places lengths) ≡ length places
+  marks-length = length-plain places lengths (checked .same-count)
+
+  -- the label of the mark at an index
+  pub label-at : (k : ℕ) → k < length places → GoodLabel (plainAt places lengths k)
+  label-at k h =
+      good-label (getD places k (pos 0)) (getD lengths k 0)
+      (every-at placeInRange places (pos 0) k (checked .places-good) h)
+      (every-at lengthInRange lengths 0 k (checked .lengths-good) (omega (arith, checked .same-count)))
+
+  -- what is left of the marks begins with the mark at the index
+  pub marks-from : (k : ℕ) → k < length places
+      → drop k (plainMarks places lengths) ≡ plainAt places lengths k ∷ drop (k + 1) (plainMarks places lengths)
+  marks-from k h = plain-at places lengths k (checked .same-count) h ∙ rw (← add-one k) refl
+
+  pub marks-end : (k : ℕ) → length places ≤ k → drop k (plainMarks places lengths) ≡ []
+  marks-end k h = drop-of-length-le (plainMarks places lengths) {i = k} (omega (arith, marks-length))
