@@ -12,6 +12,7 @@ use lib.Dec.{leb, ltb}
 use lib.ListN.{length, take, drop, take-append-drop}
 use lib.Seq.{take-at, length-take-le}
 use borrow.Author.Tests.{leb-true, ltb-true, not-false}
+use Rattle.geometry.specs.Dot.{emptyReach}
 use Rattle.geometry.specs.Mark.{Mark}
 use Rattle.geometry.specs.Position.{above, below, Position, unlabelled, at, labelled, mirror}
 use Rattle.geometry.specs.Overlap.{allLabelled}
@@ -22,7 +23,7 @@ use Rattle.geometry.specs.inner.Machine.{Go}
 use Rattle.geometry.proofs.Split.{both, by-bool, and-fst, and-snd, or-cases}
 use Rattle.geometry.proofs.Rising.{Beyond}
 use Rattle.geometry.proofs.Machine.{free-iff-go, smaller-reaches-go, mirror-go}
-use Rattle.geometry.proofs.Reaches.{endAbove, endBelow, go-split, go-join, end-above, end-below, effective-less}
+use Rattle.geometry.proofs.Reaches.{endAbove, endBelow, go-split, go-join, end-above, end-below, effective, effective-less}
 use Rattle.geometry.proofs.Words.{Member}
 use Rattle.geometry.proofs.Kept.{Failing, one-fails}
 use Rattle.geometry.proofs.Best.{free-length}
@@ -72,27 +73,39 @@ pub record Begun (g : ℕ) (ms ns : List Mark) : Type 0 where
   pub first-placed : IsPlacing g ms first
   pub first-unbeaten : unbeaten g ms first ≡ true
   pub rest-labelled : allLabelled rest ≡ true
-  pub goes : Go g 1 1 (ms ++ ns) (first ++ rest)
+  pub goes : Go g emptyReach emptyReach (ms ++ ns) (first ++ rest)
 
-module _ (g : ℕ) (ms ns : List Mark) (rise : Rising ms) (big : Beyond 1 ms) where
+-- from two empty sides ps places the marks ms, and rs the marks ns behind it
+abbrev Placed : ℕ → List Mark → List Position → Type 0
+Placed g ms ps = Go g emptyReach emptyReach ms ps
+
+abbrev Behind : ℕ → List Mark → List Mark → List Position → List Position → Type 0
+Behind g ms ns ps rs = Go g (endAbove g emptyReach ms ps) (endBelow g emptyReach ms ps) ns rs
+
+module _ (g : ℕ) (ms ns : List Mark) (rise : Rising ms) (big : Beyond emptyReach ms) where
+  abbrev above-end : (ps : List Position) → Placed g ms ps → endAbove g emptyReach ms ps ≡ effective g emptyReach (reach above ms ps)
+  above-end ps goes = end-above g emptyReach emptyReach ms ps big goes
+
+  abbrev below-end : (ps : List Position) → Placed g ms ps → endBelow g emptyReach ms ps ≡ effective g emptyReach (reach below ms ps)
+  below-end ps goes = end-below g emptyReach emptyReach ms ps big goes
+
   -- the rest goes behind a part layout with no greater reaches
-  follows : (ps qs rs : List Position) → Go g 1 1 ms ps → Go g 1 1 ms qs → reach above ms qs ≤ reach above ms ps
-      → reach below ms qs ≤ reach below ms ps
-      → Go g (endAbove g 1 ms ps) (endBelow g 1 ms ps) ns rs → Go g (endAbove g 1 ms qs) (endBelow g 1 ms qs) ns rs
+  follows : (ps qs rs : List Position) → Placed g ms ps → Placed g ms qs → reach above ms qs ≤ reach above ms ps
+      → reach below ms qs ≤ reach below ms ps → Behind g ms ns ps rs → Behind g ms ns qs rs
   follows ps qs rs hp hq la lb h =
       smaller-reaches-go g _ _ _ _ ns rs
-      (rw (end-above g 1 1 ms ps big hp, end-above g 1 1 ms qs big hq) (effective-less g (reach above ms ps) (reach above ms qs) la))
-      (rw (end-below g 1 1 ms ps big hp, end-below g 1 1 ms qs big hq) (effective-less g (reach below ms ps) (reach below ms qs) lb)) h
+      (rw (above-end ps hp, above-end qs hq) (effective-less g (reach above ms ps) (reach above ms qs) la))
+      (rw (below-end ps hp, below-end qs hq) (effective-less g (reach below ms ps) (reach below ms qs) lb))
+      h
 
   -- or its mirror image does
-  follows-mirrored : (ps qs rs : List Position) → Go g 1 1 ms ps → Go g 1 1 ms qs → reach above ms qs ≤ reach below ms ps
-      → reach below ms qs ≤ reach above ms ps
-      → Go g (endAbove g 1 ms ps) (endBelow g 1 ms ps) ns rs → Go g (endAbove g 1 ms qs) (endBelow g 1 ms qs) ns (map mirror rs)
+  follows-mirrored : (ps qs rs : List Position) → Placed g ms ps → Placed g ms qs → reach above ms qs ≤ reach below ms ps
+      → reach below ms qs ≤ reach above ms ps → Behind g ms ns ps rs → Behind g ms ns qs (map mirror rs)
   follows-mirrored ps qs rs hp hq la lb h =
       smaller-reaches-go g _ _ _ _ ns (map mirror rs)
-      (rw (end-below g 1 1 ms ps big hp, end-above g 1 1 ms qs big hq) (effective-less g (reach below ms ps) (reach above ms qs) la))
-      (rw (end-above g 1 1 ms ps big hp, end-below g 1 1 ms qs big hq) (effective-less g (reach above ms ps) (reach below ms qs) lb))
-      (mirror-go g (endAbove g 1 ms ps) (endBelow g 1 ms ps) ns rs h)
+      (rw (below-end ps hp, above-end qs hq) (effective-less g (reach below ms ps) (reach above ms qs) la))
+      (rw (above-end ps hp, below-end qs hq) (effective-less g (reach above ms ps) (reach below ms qs) lb))
+      (mirror-go g (endAbove g emptyReach ms ps) (endBelow g emptyReach ms ps) ns rs h)
 
   -- the sum of both reaches, which falls at each step
   abbrev height : List Position → ℕ
@@ -100,7 +113,7 @@ module _ (g : ℕ) (ms ns : List Mark) (rise : Rising ms) (big : Beyond 1 ms) wh
 
   -- a part layout with these positions and a rest behind it leads to an unbeaten one
   abbrev Leads : List Position → Type 0
-  Leads ps = (rs : List Position) → IsPlacing g ms ps → allLabelled rs ≡ true → Go g (endAbove g 1 ms ps) (endBelow g 1 ms ps) ns rs → Begun g ms ns
+  Leads ps = (rs : List Position) → IsPlacing g ms ps → allLabelled rs ≡ true → Behind g ms ns ps rs → Begun g ms ns
 
   -- on to a part layout qs that beats ps
   onward : (ps qs : List Position) → Leads qs → Member qs (partLayouts g ms) → Smaller (pairOf ms qs) (pairOf ms ps) → Leads ps
@@ -123,7 +136,7 @@ module _ (g : ℕ) (ms ns : List Mark) (rise : Rising ms) (big : Beyond 1 ms) wh
         first-placed = placed;
         first-unbeaten = u;
         rest-labelled = labels;
-        goes = go-join g 1 1 ms ns ps rs (free-iff-go g ms ps rise .0 (placed .is-free)) h;
+        goes = go-join g emptyReach emptyReach ms ns ps rs (free-iff-go g ms ps rise .0 (placed .is-free)) h;
       })
       (λ _ u. beaten (one-fails (λ qs. not (beats (pairOf ms qs) (pairOf ms ps))) (partLayouts g ms) u)) refl
     where
@@ -138,7 +151,8 @@ module _ (g : ℕ) (ms ns : List Mark) (rise : Rising ms) (big : Beyond 1 ms) wh
   descend (suc n) ps few = step (suc n) (λ qs lt. descend n qs (omega arith)) ps few
 
   -- so every part layout with a rest behind it leads to an unbeaten one
-  pub begun : (ps rs : List Position) → IsPlacing g ms ps → allLabelled rs ≡ true → Go g (endAbove g 1 ms ps) (endBelow g 1 ms ps) ns rs
+  pub begun : (ps rs : List Position) → IsPlacing g ms ps → allLabelled rs ≡ true
+      → Behind g ms ns ps rs
       → Begun g ms ns
   begun ps rs = descend (height ps) ps (omega arith) rs
 
@@ -176,17 +190,18 @@ beyond-take x (suc k) [] b = tt
 beyond-take x (suc k) (m ∷ ms) b = (b .0, beyond-take x k ms (b .1))
 
 -- the same of a strip and its first k marks
-pub begins-unbeaten : (g k : ℕ) (ms : List Mark) (ps : List Position) → Rising ms → Beyond 1 ms → k ≤ length ms → IsPlacing g ms ps
+pub begins-unbeaten : (g k : ℕ) (ms : List Mark) (ps : List Position) → Rising ms → Beyond emptyReach ms → k ≤ length ms → IsPlacing g ms ps
     → BeginsUnbeaten g k ms
 begins-unbeaten g k ms ps rise big short placed =
     let n : length ps ≡ length ms = free-length g ms ps (placed .is-free) in
-    let whole : Go g 1 1 (take k ms ++ drop k ms) (take k ps ++ drop k ps) =
+    let whole : Go g emptyReach emptyReach (take k ms ++ drop k ms) (take k ps ++ drop k ps) =
     rw (take-append-drop k ms, take-append-drop k ps) (free-iff-go g ms ps rise .0 (placed .is-free)) in
-    let parts = go-split g 1 1 (take k ms) (drop k ms) (take k ps) (drop k ps) (length-take-le k ps (omega arith) ∙ sym (length-take-le k ms short)) whole in
+    let parts = go-split g emptyReach emptyReach (take k ms) (drop k ms) (take k ps) (drop k ps)
+    (length-take-le k ps (omega arith) ∙ sym (length-take-le k ms short)) whole in
     let first-placed : IsPlacing g (take k ms) (take k ps) =
     record { is-free = free-iff-go g (take k ms) (take k ps) (rising-take k ms rise) .1 (parts .0); labels-all = labelled-take k ps (placed .labels-all) } in
     let b =
-    begun g (take k ms) (drop k ms) (rising-take k ms rise) (beyond-take 1 k ms big) (take k ps) (drop k ps) first-placed
+    begun g (take k ms) (drop k ms) (rising-take k ms rise) (beyond-take emptyReach k ms big) (take k ps) (drop k ps) first-placed
     (labelled-drop k ps (placed .labels-all)) (parts .1) in
     let e : take k (b .first ++ b .rest) ≡ b .first =
     take-at (b .first) (b .rest) k (free-length g (take k ms) (b .first) (b .first-placed .is-free) ∙ length-take-le k ms short) in

@@ -7,6 +7,7 @@ use mathlib.Core.Logic.{_⊎_, inl, inr, ⊎-elim}
 use mathlib.Core.List.{List, [], _∷_, map}
 use Prim.Native.Nat.{ℕ, _+_, _≤_, _<_, max, min}
 use native.Mathlib.Omega.{arith}
+use Rattle.geometry.specs.Dot.{emptyReach}
 use Rattle.geometry.specs.Mark.{Mark}
 use Rattle.geometry.specs.Position.{above, below, Direction, leftward, Position, unlabelled, at, mirror}
 use Rattle.geometry.specs.Overlap.{rightEnd, allLabelled}
@@ -63,7 +64,8 @@ abbrev pub lastEnd : Mark → List Mark → List Position → ℕ
 lastEnd m ms ps = rightEnd (lastMark m ms) (lastDirection ps)
 
 -- it is one of the two reaches, where every mark is labelled
-pub own-last : (g a b : ℕ) (m : Mark) (ms : List Mark) (ps : List Position) → Beyond 1 (m ∷ ms) → allLabelled ps ≡ true → Go g a b (m ∷ ms) ps
+pub own-last : (g a b : ℕ) (m : Mark) (ms : List Mark) (ps : List Position) → Beyond emptyReach (m ∷ ms) → allLabelled ps ≡ true
+    → Go g a b (m ∷ ms) ps
     → (reach above (m ∷ ms) ps ≡ lastEnd m ms ps) ⊎ (reach below (m ∷ ms) ps ≡ lastEnd m ms ps)
 unfolding allLabelled reach lastMark lastDirection
 own-last g a b m ms [] big l h = absurd h
@@ -88,7 +90,8 @@ pub pair-is : {p q : Pair} → p .larger ≡ q .larger → p .smaller ≡ q .sma
 pair-is e f = λ i. record { larger = e i; smaller = f i }
 
 -- the pair of a part layout is that of its last label's end and of the other side's reach
-pub pair-of-last : (g a b : ℕ) (m : Mark) (ms : List Mark) (ps : List Position) → Beyond 1 (m ∷ ms) → allLabelled ps ≡ true → Go g a b (m ∷ ms) ps
+pub pair-of-last : (g a b : ℕ) (m : Mark) (ms : List Mark) (ps : List Position) → Beyond emptyReach (m ∷ ms) → allLabelled ps ≡ true
+    → Go g a b (m ∷ ms) ps
     → (o : ℕ) × (pairOf (m ∷ ms) ps ≡ pairing (lastEnd m ms ps) o)
 pair-of-last g a b m ms ps big l h =
     ⊎-elim (λ e. (reach below (m ∷ ms) ps, pair-is (ap (λ x. max x (reach below (m ∷ ms) ps)) e) (ap (λ x. min x (reach below (m ∷ ms) ps)) e)))

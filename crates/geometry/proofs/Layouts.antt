@@ -10,6 +10,7 @@ use native.Mathlib.Decide.{decLe}
 use lib.Dec.{leb, ltb, eqb}
 use lib.ListN.{length}
 use borrow.Author.Tests.{le-leb, lt-ltb, eq-eqb}
+use Rattle.geometry.specs.Dot.{emptyReach}
 use Rattle.geometry.specs.Lists.{anyOf, keep, wordsOf}
 use Rattle.geometry.specs.Mark.{Mark}
 use Rattle.geometry.specs.Position.{Direction, leftward, rightward, Position, ranked}
@@ -55,7 +56,7 @@ not-beaten : (g : ℕ) (ms : List Mark) (ps qs : List Position) → unbeaten g m
 unfolding unbeaten
 not-beaten g ms ps qs u m = borrow.Author.Tests.not-true _ (every-passes (λ rs. not (beats (pairOf ms rs) (pairOf ms ps))) (partLayouts g ms) qs u m)
 
-module _ (g : ℕ) (m : Mark) (ms : List Mark) (rise : Rising (m ∷ ms)) (big : Beyond 1 (m ∷ ms)) where
+module _ (g : ℕ) (m : Mark) (ms : List Mark) (rise : Rising (m ∷ ms)) (big : Beyond emptyReach (m ∷ ms)) where
   -- two unbeaten part layouts that end alike have the same pair
   one-pair : (ps qs : List Position) → Member ps (keep (unbeaten g (m ∷ ms)) (partLayouts g (m ∷ ms)))
       → Member qs (keep (unbeaten g (m ∷ ms)) (partLayouts g (m ∷ ms)))
@@ -65,8 +66,8 @@ module _ (g : ℕ) (m : Mark) (ms : List Mark) (rise : Rising (m ∷ ms)) (big :
       let kq = kept-passes (unbeaten g (m ∷ ms)) (partLayouts g (m ∷ ms)) qs mq in
       let lp = listed-layout g (m ∷ ms) ps (kp .0) in
       let lq = listed-layout g (m ∷ ms) qs (kq .0) in
-      let xp = pair-of-last g 1 1 m ms ps big (lp .labels-all) (free-iff-go g (m ∷ ms) ps rise .0 (lp .is-free)) in
-      let xq = pair-of-last g 1 1 m ms qs big (lq .labels-all) (free-iff-go g (m ∷ ms) qs rise .0 (lq .is-free)) in
+      let xp = pair-of-last g emptyReach emptyReach m ms ps big (lp .labels-all) (free-iff-go g (m ∷ ms) ps rise .0 (lp .is-free)) in
+      let xq = pair-of-last g emptyReach emptyReach m ms qs big (lq .labels-all) (free-iff-go g (m ∷ ms) qs rise .0 (lq .is-free)) in
       let yq : pairOf (m ∷ ms) qs ≡ pairing (lastEnd m ms ps) (xq .0) =
       xq .1 ∙ ap (λ d. pairing (Rattle.geometry.specs.Overlap.rightEnd (lastMark m ms) d) (xq .0)) (sym same) in
       let f : beats (pairing (lastEnd m ms ps) (xp .0)) (pairing (lastEnd m ms ps) (xq .0)) ≡ false =
@@ -154,7 +155,7 @@ module _ {A : Type 0} (f : A → Pair) (kind : A → Direction) where
       ))
 
 -- At most two different pairs are unbeaten.
-pub two-unbeaten : (g : ℕ) (m : Mark) (ms : List Mark) → Rising (m ∷ ms) → Beyond 1 (m ∷ ms) → unbeatenCount g (m ∷ ms) ≤ 2
+pub two-unbeaten : (g : ℕ) (m : Mark) (ms : List Mark) → Rising (m ∷ ms) → Beyond emptyReach (m ∷ ms) → unbeatenCount g (m ∷ ms) ≤ 2
 unfolding unbeatenCount
 two-unbeaten g m ms rise big =
     let xs : List (List Position) = keep (unbeaten g (m ∷ ms)) (partLayouts g (m ∷ ms)) in

@@ -9,6 +9,7 @@ use Prim.Native.Nat.{ℕ, _+_, _≤_, _<_}
 use native.Mathlib.Omega.{arith}
 use lib.Dec.{ltb}
 use borrow.Author.Tests.{le-leb, leb-true, le-ltb, lt-ltb, ltb-false}
+use Rattle.geometry.specs.Dot.{emptyReach}
 use Rattle.geometry.specs.Mark.{Mark}
 use Rattle.geometry.specs.Position.{above, below, Direction, leftward, rightward, Position, unlabelled, at, mirror, ownReach}
 use Rattle.geometry.specs.Overlap.{leftEnd, rightEnd, overlaps, apart, free}
@@ -133,12 +134,12 @@ free-go g a b (m ∷ ms) (p ∷ ps) r t k = (
 )
 
 -- beside two sides without labels everything fits
-all-room : (ms : List Mark) (ps : List Position) → Rising ms → AllRoom 1 1 ms ps
+all-room : (ms : List Mark) (ps : List Position) → Rising ms → AllRoom emptyReach emptyReach ms ps
 all-room [] ps r = tt
 all-room (m ∷ ms) [] r = tt
 all-room (m ∷ ms) (p ∷ ps) r = (here p, all-room ms ps (rising-rest m ms r))
   where
-    here : (p : Position) → Room 1 1 m p
+    here : (p : Position) → Room emptyReach emptyReach m p
     here unlabelled = tt
     here (at above leftward) = omega (arith, rising-first m ms r)
     here (at above rightward) = omega (arith, rising-first m ms r)
@@ -146,8 +147,8 @@ all-room (m ∷ ms) (p ∷ ps) r = (here p, all-room ms ps (rising-rest m ms r))
     here (at below rightward) = omega (arith, rising-first m ms r)
 
 -- a choice is free exactly if the walk accepts it
-pub free-iff-go : (g : ℕ) (ms : List Mark) (ps : List Position) → Rising ms → (free g ms ps ≡ true) ↔ Go g 1 1 ms ps
-free-iff-go g ms ps r = (λ t. free-go g 1 1 ms ps r t (all-room ms ps r), λ h. go-free g 1 1 ms ps r h .0)
+pub free-iff-go : (g : ℕ) (ms : List Mark) (ps : List Position) → Rising ms → (free g ms ps ≡ true) ↔ Go g emptyReach emptyReach ms ps
+free-iff-go g ms ps r = (λ t. free-go g emptyReach emptyReach ms ps r t (all-room ms ps r), λ h. go-free g emptyReach emptyReach ms ps r h .0)
 
 -- smaller reaches never hurt
 room-less : (a b a′ b′ : ℕ) (m : Mark) (p : Position) → a′ ≤ a → b′ ≤ b → Room a b m p → Room a′ b′ m p

@@ -9,6 +9,7 @@ use Prim.Native.Nat.{ℕ, _+_, _≤_, _<_, max}
 use native.Mathlib.Omega.{arith}
 use lib.Dec.{leb}
 use lib.ListN.{length}
+use Rattle.geometry.specs.Dot.{emptyReach}
 use Rattle.geometry.specs.Mark.{Mark}
 use Rattle.geometry.specs.Position.{Side, above, below, Direction, Position, unlabelled, at, mirror, opposite}
 use Rattle.geometry.specs.Overlap.{rightEnd}
@@ -79,7 +80,7 @@ reach-after g a b (m ∷ ms) (at below d ∷ ps) h k = reach-after g a (rightEnd
 
 -- what the walk holds for a side that reaches to r: r plus the gap, or what it held where the side has no label
 abbrev pub effective : ℕ → ℕ → ℕ → ℕ
-effective g a r = cond (leb r 1) a (r + g)
+effective g a r = cond (leb r emptyReach) a (r + g)
 
 -- a label in front: its end counts where no later label lies above
 above-step : (g a b : ℕ) (m : Mark) (d : Direction) (ms : List Mark) (ps : List Position) (x : ℕ) → 1 < m .place
@@ -97,7 +98,7 @@ above-step g a b m d ms ps x big h e =
     (lt-or-ge 1 (reach above ms ps)))
 
 -- so the walk ends with the effective reaches of the part layout
-pub end-above : (g a b : ℕ) (ms : List Mark) (ps : List Position) → Beyond 1 ms → Go g a b ms ps
+pub end-above : (g a b : ℕ) (ms : List Mark) (ps : List Position) → Beyond emptyReach ms → Go g a b ms ps
     → endAbove g a ms ps ≡ effective g a (reach above ms ps)
 unfolding endAbove reach
 end-above g a b [] ps big h = refl
@@ -107,14 +108,14 @@ end-above g a b (m ∷ ms) (at above d ∷ ps) big h =
     above-step g a b m d ms ps _ (big .0) (h .1) (end-above g (rightEnd m d + g) b ms ps (big .1) (h .1))
 end-above g a b (m ∷ ms) (at below d ∷ ps) big h = end-above g a (rightEnd m d + g) ms ps (big .1) (h .1)
 
-pub end-below : (g a b : ℕ) (ms : List Mark) (ps : List Position) → Beyond 1 ms → Go g a b ms ps
+pub end-below : (g a b : ℕ) (ms : List Mark) (ps : List Position) → Beyond emptyReach ms → Go g a b ms ps
     → endBelow g b ms ps ≡ effective g b (reach below ms ps)
 end-below g a b ms ps big h =
     mirror-end g b ms ps ∙ end-above g b a ms (map mirror ps) big (mirror-go g a b ms ps h) ∙ ap (effective g b) (mirror-reach above ms ps)
 
 -- a smaller reach by right ends is a smaller one for the walk
-pub effective-less : (g r r′ : ℕ) → r′ ≤ r → effective g 1 r′ ≤ effective g 1 r
+pub effective-less : (g r r′ : ℕ) → r′ ≤ r → effective g emptyReach r′ ≤ effective g emptyReach r
 effective-less g r r′ h =
-    by-leb r′ 1 (λ t. cond t 1 (r′ + g) ≤ effective g 1 r)
-    (λ k. by-leb r 1 (λ t. 1 ≤ cond t 1 (r + g)) (λ _. omega arith) (λ l. omega arith))
-    (λ k. by-leb r 1 (λ t. r′ + g ≤ cond t 1 (r + g)) (λ l. absurd (omega arith)) (λ l. omega arith))
+    by-leb r′ emptyReach (λ t. cond t emptyReach (r′ + g) ≤ effective g emptyReach r)
+    (λ k. by-leb r emptyReach (λ t. emptyReach ≤ cond t emptyReach (r + g)) (λ _. omega arith) (λ l. omega arith))
+    (λ k. by-leb r emptyReach (λ t. r′ + g ≤ cond t emptyReach (r + g)) (λ l. absurd (omega arith)) (λ l. omega arith))

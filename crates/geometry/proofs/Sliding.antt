@@ -125,7 +125,7 @@ past-empty g n (m ∷ ms) (s ∷ ss) [] rise placed = absurd placed
 past-empty g n (m ∷ ms) (s ∷ ss) (e ∷ es) rise placed =
     let short : m .labelLength < m .place = rising-first m ms rise in
     let h : n * 1 ≤ n * (m .place - m .labelLength) = mul-le-mul-left n (omega arith) in
-    let own : ownReach s 1 1 ≡ 1 = elim s [ above ↦ refl | below ↦ refl ] in
+    let own : ownReach s emptyReach emptyReach ≡ emptyReach = elim s [ above ↦ refl | below ↦ refl ] in
     (rw own (omega (arith, placed .0 .not-left)), past-empty g n ms ss es (rising-rest m ms rise) (placed .2))
 
 -- The leftmost edges for the same sides, times n, are at most the edges of any placing at denominator n.

@@ -6,5 +6,6 @@ pub mod Sums
 pub mod PassAnswers
 pub mod StripText
 pub mod JobText
+pub mod Contract
 pub mod LeftOutFew
 pub mod TextFits
