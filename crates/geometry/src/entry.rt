@@ -35,43 +35,41 @@ pub fn weight_in_range(weight: u16) -> bool
     1 <= weight && weight <= MOST_WEIGHT
 }
 
+// A list is looked at whole, with no jump at an element that fails, so that the compiler tests several elements at once.
 fn places_in_range(places: &[i16]) -> bool
     ensures { λ r. ⌜ r ≡ every placeInRange (now (places .entry)) ⌝ }
 {
+    let mut good = true;
     let mut i = 0;
     while i < places.len() {
-        if !place_in_range(places[i]) {
-            return false;
-        }
+        good = good & place_in_range(places[i]);
         i += 1;
     }
-    true
+    good
 }
 
 fn lengths_in_range(lengths: &[u8]) -> bool
     ensures { λ r. ⌜ r ≡ every lengthInRange (now (lengths .entry)) ⌝ }
 {
+    let mut good = true;
     let mut i = 0;
     while i < lengths.len() {
-        if !length_in_range(lengths[i]) {
-            return false;
-        }
+        good = good & length_in_range(lengths[i]);
         i += 1;
     }
-    true
+    good
 }
 
 fn weights_in_range(weights: &[u16]) -> bool
     ensures { λ r. ⌜ r ≡ every weightInRange (now (weights .entry)) ⌝ }
 {
+    let mut good = true;
     let mut i = 0;
     while i < weights.len() {
-        if !weight_in_range(weights[i]) {
-            return false;
-        }
+        good = good & weight_in_range(weights[i]);
         i += 1;
     }
-    true
+    good
 }
 
 // Whether a mark at y may follow one at x.
@@ -88,14 +86,13 @@ fn places_rise(places: &[i16]) -> bool
     if places.len() == 0 {
         return true;
     }
+    let mut good = true;
     let mut i = 0;
     while i < places.len() - 1 {
-        if !rises(places[i], places[i + 1]) {
-            return false;
-        }
+        good = good & rises(places[i], places[i + 1]);
         i += 1;
     }
-    true
+    good
 }
 
 fn same_lengths(places: &[i16], lengths: &[u8], weights: &[u16]) -> bool

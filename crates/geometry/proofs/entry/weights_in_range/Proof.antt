@@ -1,21 +1,21 @@
--- `geometry::entry::weights_in_range` meets its contract: the answer for the whole list is that for what is left of it.
-use mathlib.Core.Path.{_≡_, refl, sym, _∙_}
+-- `geometry::entry::weights_in_range` meets its contract: what the elements so far say together and what is left says is the answer.
+use mathlib.Core.Path.{_≡_, refl, sym}
+use mathlib.Core.Bool.{_&&_}
 use Prim.Native.Nat.{_≤_, _-_}
 use native.Mathlib.Omega.{arith}
 use borrow.Author.Needs.{needs}
-use borrow.Author.Tests.{not-true, not-false}
 use lib.ListN.{length, drop}
 use Rattle.geometry.specs.Lists.{every}
 use Rattle.geometry.specs.Mark.{weightInRange}
-use Rattle.geometry.proofs.Every.{every-step, every-fails, every-ends}
+use Rattle.geometry.proofs.Every.{every-next, every-ends}
 use Rattle.geometry.proofs.entry.weights_in_range.Statement.{statement}
 use Rattle.geometry.proofs.entry.weights_in_range.Tie as tie
 
 abbrev Inv-loop : tie.InvT-loop
-Inv-loop weights i₀ i = (i ≤ length weights) × (every weightInRange weights ≡ every weightInRange (drop i weights))
+Inv-loop weights good₀ i₀ good i = (i ≤ length weights) × (every weightInRange weights ≡ (good && every weightInRange (drop i weights)))
 
 abbrev μ-loop : tie.MeasureT-loop
-μ-loop weights i₀ i = length weights - i
+μ-loop weights good₀ i₀ good i = length weights - i
 
 loop-holds : tie.Need-loop-holds Inv-loop μ-loop
 loop-holds c = (omega arith, refl)
@@ -26,38 +26,18 @@ mul-weight-in-range c = omega arith
 shared-slice-read-weight-in-range : tie.Need-shared-slice-read-weight-in-range Inv-loop μ-loop
 shared-slice-read-weight-in-range c = omega arith
 
-weight-in-range-requires : tie.Need-weight-in-range-requires Inv-loop μ-loop
-weight-in-range-requires c κs = search needs
-
--- the turn of the loop in which an element was tested, and what the test said of it
-abbrev turn : tie.After-weight-in-range Inv-loop μ-loop → tie.In-loop Inv-loop μ-loop
-turn c = c .before .before
+loop-again : tie.Need-loop-again Inv-loop μ-loop
+loop-again c =
+    let turn = c .before .before .before in
+    (omega arith, rw (c .weight-in-range .ensures) (every-next weightInRange _ 0 (turn .loop .i) (turn .loop .good) (turn .loop .inv .1) (omega arith)))
 
 returns : tie.Need-returns Inv-loop μ-loop
 returns c =
-    let inside = turn (c .before) in
-    let fails = sym (c .before .weight-in-range .ensures) ∙ not-true _ (c .if1 .taken) in
-    sym (every-fails weightInRange _ 0 _ (inside .before .loop .inv .1) (inside .loop-test .taken) fails)
-
-add-i : tie.Need-add-i Inv-loop μ-loop
-add-i c = omega arith
-
-loop-less : tie.Need-loop-less Inv-loop μ-loop
-loop-less c = omega arith
-
-loop-again : tie.Need-loop-again Inv-loop μ-loop
-loop-again c =
-    let inside = turn (c .before) in
-    let passes = sym (c .before .weight-in-range .ensures) ∙ not-false _ (c .if1 .left) in
-    (omega arith, every-step weightInRange _ 0 _ (inside .before .loop .inv .1) (inside .loop-test .taken) passes)
-
-returns-2 : tie.Need-returns-2 Inv-loop μ-loop
-returns-2 c =
-    let lent = c .before .before .before .args .weights .now in
-    sym (every-ends weightInRange lent 0 (c .before .loop .i) (c .before .loop .inv .1) (omega arith))
+    let looped = c .before .loop in
+    sym (every-ends weightInRange (c .before .before .before .args .weights .now) 0 (looped .i) (looped .good) (looped .inv .1) (omega arith))
 
 pub weights-in-range-spec : {M : Type 1} → statement M
 weights-in-range-spec =
     tie.close
-    (tie.spec Inv-loop μ-loop loop-holds mul-weight-in-range shared-slice-read-weight-in-range weight-in-range-requires returns add-i loop-less loop-again
-    returns-2)
+    (tie.spec Inv-loop μ-loop loop-holds mul-weight-in-range shared-slice-read-weight-in-range (λ c κs. search needs) (λ c. omega arith) (λ c. omega arith) loop-again
+    returns)
