@@ -15,7 +15,7 @@
  * unchanged. No call keeps a pointer, allocates memory or holds state of its own, so calls on separate buffers may run at once.
  *
  * The archive, target/staticlib/libexports.a, is an `ar` archive of one ELF object for x86-64 with the System V calling
- * convention: some 8,000 bytes, of them 5,500 code and constants, and no variables. It leaves one symbol undefined, memset. It
+ * convention: some 16,000 bytes, of them 10,700 code and constants, and no variables. It leaves one symbol undefined, memset. It
  * links into position-independent and into static programs. It uses SSE2 registers, and the 128 bytes below the stack pointer
  * that the convention keeps free: an interrupt on the same stack must leave both as they were.
  *

@@ -1,7 +1,7 @@
 -- A test of a whole list is decided by a walk through it, one element after the other: at every point the whole list passes exactly if the
 -- elements so far passed together and what is left of the list passes. An element more moves one test from the second part to the first,
 -- and at the end nothing is left.
-use mathlib.Core.Path.{_≡_, refl, sym, _∙_, ap}
+use mathlib.Core.Path.{_≡_, refl, _∙_, ap}
 use mathlib.Core.Bool.{Bool, true, false, _&&_}
 use mathlib.Core.List.{List, [], _∷_}
 use Prim.Native.Nat.{ℕ, suc, _+_, _<_}

@@ -5,6 +5,7 @@ use mathlib.Core.List.{List}
 use Prim.Native.Nat.{ℕ, _≤_, _<_}
 use native.Mathlib.Omega.{arith}
 use lib.ListN.{length, take, length-take}
+use borrow.Author.Tests.{le-leb, lt-leb}
 use Rattle.geometry.specs.Refusal.{refusalNumber, listTooShort}
 use Rattle.listing.specs.Listing.{ListingContract}
 use Rattle.listing.specs.inner.Append.{Appended}
@@ -23,20 +24,24 @@ module _ {job buffer : List ℕ} {next : ℕ} (made : Listing job buffer next) w
   pub refused-call : (output : List ℕ) → length output < next
       → ListingContract job output output (record { number = refusalNumber listTooShort; length = 0 })
   refused-call output short =
+      let too-long = lt-leb (length (made .text)) (length output) (omega (arith, made .next-is)) in
       record {
         text = made .text;
         text-of = made .text-of;
-        where-room = λ room. absurd (omega (arith, made .next-is));
-        where-short = λ _. (refl, refl, refl);
+        number-is = rw too-long refl;
+        length-is = rw too-long refl;
+        output-is = rw too-long refl;
       }
 
   -- and one that is not
   pub listed-call : {output exit : List ℕ} {end : ℕ} → next ≤ length output → Appended output 0 (take next buffer) exit end
       → ListingContract job output exit (record { number = 0; length = next })
-  listed-call room put =
+  listed-call {output} room put =
+      let fits = le-leb (length (made .text)) (length output) (omega (arith, made .next-is)) in
       record {
         text = made .text;
         text-of = made .text-of;
-        where-room = λ _. (refl, made .next-is, front-written (appended-is put (made .stands)));
-        where-short = λ short. absurd (short (omega (arith, made .next-is)));
+        number-is = rw fits refl;
+        length-is = rw fits (made .next-is);
+        output-is = rw fits (front-written (appended-is put (made .stands)));
       }

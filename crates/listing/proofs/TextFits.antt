@@ -9,6 +9,7 @@ use mathlib.Core.Option.{Option, none, some}
 use Prim.Native.Nat.{ℕ, _+_, _*_, _/_, _%_, _≤_}
 use native.Mathlib.Omega.{arith}
 use lib.Dec.{lit≤}
+use borrow.Author.Tests.{le-leb}
 use lib.ListN.{length, length-append, length-map}
 use Rattle.geometry.specs.Strip.{Strip, marksOf, mostMarks, mostShort}
 use Rattle.geometry.specs.Position.{Position, code}
@@ -155,4 +156,7 @@ module _ (job text : List ℕ) (bytes : Bytes job) (t : TextOf job text) where
 -- So a call whose output holds the longest text is never refused.
 pub never-too-small : {job entry exit : List ℕ} {r : Listed} (call : ListingContract job entry exit r) → Bytes job → textMost ≤ length entry
     → (r .number ≡ 0) × (r .length ≡ length (call .text)) × (exit ≡ written (call .text) entry)
-never-too-small {job} call bytes room = call .where-room (omega (arith, text-fits job (call .text) bytes (call .text-of)))
+never-too-small {job} {entry} call bytes room =
+    let text = call .text in
+    let fits = le-leb (length text) (length entry) (omega (arith, text-fits job text bytes (call .text-of))) in
+    (rw fits at (call .number-is), rw fits at (call .length-is), rw fits at (call .output-is))

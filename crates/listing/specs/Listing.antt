@@ -4,6 +4,7 @@ use mathlib.Core.Path.{_≡_}
 use mathlib.Core.Logic.{_↔_}
 use mathlib.Core.List.{List}
 use mathlib.Core.Bool.{Bool, true}
+use lib.Dec.{leb}
 use lib.ListN.{length}
 use Rattle.geometry.specs.Strip.{Strip, marksOf, mostMarks, mostShort}
 use Rattle.geometry.specs.Position.{Position}
@@ -11,7 +12,7 @@ use Rattle.geometry.specs.Overlap.{free}
 use Rattle.geometry.specs.Placing.{sumOf, bestSum}
 use Rattle.geometry.specs.Sliding.{Slides}
 use Rattle.geometry.specs.Pass.{written}
-use Rattle.geometry.specs.Refusal.{refusalNumber, listTooShort}
+use Rattle.geometry.specs.Refusal.{Verdict, accepted, refused, numberOf, afterCheck, listTooShort}
 use Rattle.best.specs.LeftOut.{ListsLeftOut}
 use Rattle.job.specs.Outcome.{Outcome, given}
 use Rattle.job.specs.Decode.{decode}
@@ -48,10 +49,23 @@ pub record TextOf (job : List ℕ) (text : List ℕ) : Type 0 where
 abbrev pub textMost : ℕ
 textMost = 25000
 
--- The contract: the job, the output at entry and at exit, and what is handed back. The output holds the text and is unchanged beyond
--- it; an output that is too small is refused 9 and unchanged.
+-- "9 .. longer than the output": the one check of the call
+abbrev pub listingVerdict : List ℕ → List ℕ → Verdict
+listingVerdict text output = afterCheck (leb (length text) (length output)) listTooShort accepted
+
+-- what is handed back and the output afterwards: the text in its used part, or nothing at a refusal
+abbrev pub lengthGiven : Verdict → List ℕ → ℕ
+lengthGiven accepted text = length text
+lengthGiven (refused r) text = 0
+
+abbrev pub outputAfter : Verdict → List ℕ → List ℕ → List ℕ
+outputAfter accepted text old = written text old
+outputAfter (refused r) text old = old
+
+-- The contract: the job, the output at entry and at exit, and what is handed back.
 pub record ListingContract (job entry exit : List ℕ) (r : Listed) : Type 0 where
   pub text : List ℕ
   pub text-of : TextOf job text
-  pub where-room : length text ≤ length entry → (r .number ≡ 0) × (r .length ≡ length text) × (exit ≡ written text entry)
-  pub where-short : (length text ≤ length entry → ⊥) → (r .number ≡ refusalNumber listTooShort) × (r .length ≡ 0) × (exit ≡ entry)
+  pub number-is : r .number ≡ numberOf (listingVerdict text entry)
+  pub length-is : r .length ≡ lengthGiven (listingVerdict text entry) text
+  pub output-is : exit ≡ outputAfter (listingVerdict text entry) text entry

@@ -39,5 +39,6 @@ returns c =
 pub weights-in-range-spec : {M : Type 1} → statement M
 weights-in-range-spec =
     tie.close
-    (tie.spec Inv-loop μ-loop loop-holds mul-weight-in-range shared-slice-read-weight-in-range (λ c κs. search needs) (λ c. omega arith) (λ c. omega arith) loop-again
+    (tie.spec Inv-loop μ-loop loop-holds mul-weight-in-range shared-slice-read-weight-in-range (λ c κs. search needs) (λ c. omega arith)
+    (λ c. omega arith) loop-again
     returns)
