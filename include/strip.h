@@ -15,7 +15,7 @@
  * unchanged. No call keeps a pointer, allocates memory or holds state of its own, so calls on separate buffers may run at once.
  *
  * The archive, target/staticlib/libexports.a, is an `ar` archive of one ELF object for x86-64 with the System V calling
- * convention: some 16,000 bytes, of them 10,700 code and constants, and no variables. It leaves one symbol undefined, memset. It
+ * convention: some 17,500 bytes, of them 11,900 code and constants, and no variables. It leaves one symbol undefined, memset. It
  * links into position-independent and into static programs. It uses SSE2 registers, and the 128 bytes below the stack pointer
  * that the convention keeps free: an interrupt on the same stack must leave both as they were.
  *
@@ -23,8 +23,8 @@
  *   - every pass and the writer: 4n for the checks on entry;
  *   - full: n to fill its table, n to walk, and 20,000 to clear the work area;
  *   - slide: 482n to fill its table, n to walk, and 30,000 to clear the work area;
- *   - best: 2n(n + 1)(2n + 1)/3 cells with five offers each (295,240 cells at 60 marks), 2n + 2 to prepare, 4n to walk, n to list
- *     the left-out marks, and 30,000 to clear the work area twice;
+ *   - best: 2n(n + 1)(2n + 1)/3 cells with five offers each (295,240 cells at 60 marks), 2n(n + 1) offers that the cells of a row
+ *     share, 2n + 2 to prepare, 4n to walk, n to list the left-out marks, and 30,000 to clear the work area twice;
  *   - reader and writer: 2n records, since each is looked at twice.
  */
 #ifndef STRIP_H

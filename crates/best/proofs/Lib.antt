@@ -8,6 +8,7 @@ pub mod CellsHoldWorth
 pub mod TableRenewed
 pub mod RenewedInParts
 pub mod CellsAreSmall
+pub mod RowGivesCells
 pub mod WalkIsBest
 pub mod ZerosAreLeftOut
 pub mod Contract

@@ -5,4 +5,5 @@ pub mod Names
 pub mod Checked
 pub mod Table
 pub mod Trial
+pub mod Row
 pub mod Zeros

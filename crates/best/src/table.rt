@@ -5,13 +5,13 @@ use crate::position::Position;
 use crate::position::is_above;
 use crate::position::is_below;
 use crate::position::is_labelled;
-use crate::position::position_at;
-use crate::room::has_room;
+use crate::row::Row;
+use crate::row::cell;
 use crate::work;
-use geometry::numbers::larger_u32;
+use geometry::dot::dot_of;
 ghost use mathlib.Core.Path.{_≡_};
 ghost use Prim.Native.Nat.{suc, _*_, _<_};
-ghost use lib.ListN.{length, getD, drop};
+ghost use lib.ListN.{length, getD, set, drop};
 ghost use Rattle.geometry.specs.Strip.{strip};
 ghost use Rattle.best.specs.Best.{workNamed};
 ghost use Rattle.best.specs.inner.Positions.{positionOf};
@@ -19,7 +19,8 @@ ghost use Rattle.best.specs.inner.Worth.{earnedBy};
 ghost use Rattle.best.specs.inner.Names.{names, namesBefore};
 ghost use Rattle.best.specs.inner.Checked.{Ready};
 ghost use Rattle.best.specs.inner.Table.{cellOf, Filled, Renewing, Renewed};
-ghost use Rattle.best.specs.inner.Trial.{GainAsked, BeforeMark, gainAt, offerAt, mostAt};
+ghost use Rattle.best.specs.inner.Trial.{GainAsked, BeforeMark, gainAt};
+ghost use Rattle.best.specs.inner.Row.{RowOf, CellAsked, cellBy};
 
 // What mark k, counted from 0, earns at p.
 pub fn earned(weights: &[u16], k: usize, p: Position) -> u16
@@ -42,31 +43,9 @@ pub fn gain(weights: &[u16], work: &[u32], k: usize, p: Position, above: usize, 
     earned(weights, k, p) as u32 + work[x * NAMES + y]
 }
 
-// The same where there is room, and 0 where there is none.
-fn offer(
-    places: &[i16],
-    lengths: &[u8],
-    weights: &[u16],
-    reaches: &[u16],
-    work: &[u32],
-    k: usize,
-    p: Position,
-    above: usize,
-    below: usize,
-) -> u32
-    requires { ⌜ BeforeMark (strip (now places) (now lengths) (now weights)) (now reaches) (now work) k above below ⌝ }
-    ensures { λ r. ⌜ r ≡ offerAt 0
-        (strip (now (places .entry)) (now (lengths .entry)) (now (weights .entry)))
-        (now (work .entry)) k above below (positionOf p) ⌝ }
-{
-    if has_room(places, lengths, reaches, k, p, above, below) {
-        return gain(weights, work, k, p, above, below);
-    }
-    0
-}
-
-// The most that mark k and the marks after it earn beside the last labels above and below.
-fn most(
+// What the cells of the row of `above` share for mark k. A label below becomes the last one there, whatever the last one was: 0 stands
+// for it.
+fn row_of(
     places: &[i16],
     lengths: &[u8],
     weights: &[u16],
@@ -74,42 +53,36 @@ fn most(
     work: &[u32],
     k: usize,
     above: usize,
-    below: usize,
-) -> u32
-    requires { ⌜ BeforeMark (strip (now places) (now lengths) (now weights)) (now reaches) (now work) k above below ⌝ }
-    ensures { λ r. ⌜ r ≡ mostAt 0 (strip (now (places .entry)) (now (lengths .entry)) (now (weights .entry))) (now (work .entry)) k above below ⌝ }
+) -> Row
+    requires { ⌜ BeforeMark (strip (now places) (now lengths) (now weights)) (now reaches) (now work) k above 0 ⌝ }
+    ensures { λ r. ⌜ RowOf (strip (now (places .entry)) (now (lengths .entry)) (now (weights .entry))) (now (work .entry)) k above r ⌝ }
 {
-    let mut best = 0;
-    let mut i = 0;
-    while i < 5 {
-        let p = position_at(i);
-        best = larger_u32(
-            best,
-            offer(places, lengths, weights, reaches, work, k, p, above, below),
-        );
-        i += 1;
+    let reach = reaches[above];
+    let place = dot_of(places[k]);
+    let left = place - lengths[k] as u16;
+    let weight = weights[k] as u32;
+    let leftward = gain(weights, work, k, Position::BelowLeft, above, 0);
+    let rightward = gain(weights, work, k, Position::BelowRight, above, 0);
+    Row {
+        reach,
+        left,
+        place,
+        weight,
+        leftward,
+        rightward,
     }
-    best
 }
 
-// One cell for one mark more.
-fn renew_cell(
-    places: &[i16],
-    lengths: &[u8],
-    weights: &[u16],
-    reaches: &[u16],
-    work: &mut [u32],
-    k: usize,
-    above: usize,
-    below: usize,
-)
-    requires { ⌜ Renewing (strip (now places) (now lengths) (now weights)) (now reaches) (now work) k (cellOf above below) ⌝
-        ∗ ⌜ (above < namesBefore k) × (below < namesBefore k) ⌝ }
-    ensures { λ _. ⌜ Renewed
-        (strip (now (places .entry)) (now (lengths .entry)) (now (weights .entry)))
-        k (suc (cellOf above below)) (now (work .entry)) (now (work .exit)) ⌝ }
+// One cell for one mark more, by what its row shares.
+fn renew_cell(reaches: &[u16], work: &mut [u32], k: usize, above: usize, below: usize, row: Row)
+    requires { ⌜ CellAsked row (now reaches) (now work) k above below ⌝ }
+    ensures { λ _. ⌜ now (work .exit) ≡ set (now (work .entry)) (cellOf above below)
+        (cellBy row (now (reaches .entry)) (now (work .entry)) k above below) ⌝ }
 {
-    work[above * NAMES + below] = most(places, lengths, weights, reaches, work, k, above, below);
+    let stay = work[above * NAMES + below];
+    let above_left = work[(2 * k + 2) * NAMES + below];
+    let above_right = work[(2 * k + 3) * NAMES + below];
+    work[above * NAMES + below] = cell(row, reaches[below], stay, above_left, above_right);
 }
 
 // The row of one last label above, for one mark more: its cells with a last label below of mark k or later stay as they are.
@@ -127,9 +100,10 @@ fn renew_row(
         (strip (now (places .entry)) (now (lengths .entry)) (now (weights .entry)))
         k (suc above * names) (now (work .entry)) (now (work .exit)) ⌝ }
 {
+    let row = row_of(places, lengths, weights, reaches, work, k, above);
     let mut below = 0;
     while below < 2 * k + 2 {
-        renew_cell(places, lengths, weights, reaches, work, k, above, below);
+        renew_cell(reaches, work, k, above, below, row);
         below += 1;
     }
 }

@@ -1,17 +1,8 @@
-// The larger or the smaller of two unsigned numbers, for each width that the passes compare.
+// The larger or the smaller of two unsigned numbers.
 ghost use mathlib.Core.Path.{_≡_};
 ghost use Prim.Native.Nat.{max, min};
 
-pub fn larger_u16(a: u16, b: u16) -> u16
-    ensures { λ r. ⌜ r ≡ max a b ⌝ }
-{
-    if a < b {
-        return b;
-    }
-    a
-}
-
-pub fn larger_u32(a: u32, b: u32) -> u32
+pub fn larger(a: u16, b: u16) -> u16
     ensures { λ r. ⌜ r ≡ max a b ⌝ }
 {
     if a < b {

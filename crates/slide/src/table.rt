@@ -4,7 +4,7 @@
 use geometry::dot::EMPTY_REACH;
 use geometry::dot::dot_of;
 use geometry::limits::MOST_LENGTH;
-use geometry::numbers::larger_u16;
+use geometry::numbers::larger;
 ghost use mathlib.Core.Path.{_≡_};
 ghost use mathlib.Core.Bool.{_||_};
 ghost use Prim.Native.Nat.{_+_, _≤_, _<_};
@@ -99,7 +99,7 @@ fn fill_row(work: &mut [u16], row: usize, place: u16, length: u8, next_place: u1
         slides = furthest_slide(work, next, reach, slides);
         let own = own_side(work, next, next_place, next_length, reach);
         let other = other_side(next_place, next_length, slides);
-        work[row + d] = larger_u16(own, other);
+        work[row + d] = larger(own, other);
         d += 1;
     }
 }

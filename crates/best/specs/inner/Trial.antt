@@ -2,7 +2,7 @@
 -- after it by the table.
 use mathlib.Core.Path.{_≡_}
 use mathlib.Core.List.{List}
-use mathlib.Core.Bool.{Bool, true, cond, _&&_}
+use mathlib.Core.Bool.{Bool, true, _&&_}
 use Prim.Native.Nat.{ℕ, _+_, _*_, _/_, _≤_, _<_}
 use lib.Dec.{eqb}
 use lib.IntN.{ℤ}
@@ -55,10 +55,7 @@ roomAt g s k x y p = roomFor (reachAt g s x) (reachAt g s y) (labelAt (s .places
 abbrev pub gainAt : List ℕ → List ℕ → ℕ → ℕ → ℕ → Position → ℕ
 gainAt ws work k x y p = earnedBy (getD ws k 0) p + getD work (cellAfter k x y p) 0
 
--- the same where there is room, and 0 where there is none; and the most of all positions
-abbrev pub offerAt : ℕ → Strip → List ℕ → ℕ → ℕ → ℕ → Position → ℕ
-offerAt g s work k x y p = cond (roomAt g s k x y p) (gainAt (s .weights) work k x y p) 0
-
+-- the most of all positions that have room
 abbrev pub mostAt : ℕ → Strip → List ℕ → ℕ → ℕ → ℕ → ℕ
 mostAt g s work k x y = greatestOf (roomAt g s k x y) (gainAt (s .weights) work k x y) everyPosition
 

@@ -1,29 +1,65 @@
--- `best::table::renew_cell` meets its contract: the cell gets the greatest offer.
-use mathlib.Core.Path.{_∙_}
-use native.Mathlib.Omega.{arith}
-use lib.Seq.{drop-set-lt}
-use Rattle.geometry.specs.Strip.{Strip, strip}
-use Rattle.best.specs.Best.{workNamed}
-use Rattle.best.specs.inner.Table.{cellOf}
-use Rattle.best.proofs.CellsHoldWorth.{renewed-worth}
-use Rattle.best.proofs.TableRenewed.{set-cell}
-use Rattle.best.proofs.CellsAreSmall.{before-partly}
+-- `best::table::renew_cell` meets its contract: the three cells and the reach are looked up, and the cell is stored.
+use mathlib.Core.Path.{refl}
 use borrow.Author.Needs.{needs}
 use Rattle.best.proofs.table.renew_cell.Statement.{statement}
 use Rattle.best.proofs.table.renew_cell.Tie as tie
 
--- what was passed
-abbrev start : tie.After-most-arg → tie.Start
-start c = let lists = c .before .before .before in lists .before .before
+mul-stay : tie.Need-mul-stay
+mul-stay c = search needs
 
-abbrev marks : tie.Start → Strip
-marks a = strip (a .args .places .now) (a .args .lengths .now) (a .args .weights .now)
+add-stay : tie.Need-add-stay
+add-stay c = search needs
 
-most-requires : tie.Need-most-requires
-most-requires c κs =
-    let a = start c in
-    let h = a .pre .0 in
-    before-partly 0 (marks a) _ _ (a .args .k) (a .args .above) (a .args .below) (h .ready) (h .in-strip) (omega arith) (omega arith) _ (h .partly)
+mul-stay-2 : tie.Need-mul-stay-2
+mul-stay-2 c = search needs
+
+slice-read-stay : tie.Need-slice-read-stay
+slice-read-stay c = search needs
+
+mul-above-left : tie.Need-mul-above-left
+mul-above-left c = search needs
+
+add-above-left : tie.Need-add-above-left
+add-above-left c = search needs
+
+mul-above-left-2 : tie.Need-mul-above-left-2
+mul-above-left-2 c = search needs
+
+add-above-left-2 : tie.Need-add-above-left-2
+add-above-left-2 c = search needs
+
+mul-above-left-3 : tie.Need-mul-above-left-3
+mul-above-left-3 c = search needs
+
+slice-read-above-left : tie.Need-slice-read-above-left
+slice-read-above-left c = search needs
+
+mul-above-right : tie.Need-mul-above-right
+mul-above-right c = search needs
+
+add-above-right : tie.Need-add-above-right
+add-above-right c = search needs
+
+mul-above-right-2 : tie.Need-mul-above-right-2
+mul-above-right-2 c = search needs
+
+add-above-right-2 : tie.Need-add-above-right-2
+add-above-right-2 c = search needs
+
+mul-above-right-3 : tie.Need-mul-above-right-3
+mul-above-right-3 c = search needs
+
+slice-read-above-right : tie.Need-slice-read-above-right
+slice-read-above-right c = search needs
+
+mul-cell : tie.Need-mul-cell
+mul-cell c = search needs
+
+shared-slice-read-cell : tie.Need-shared-slice-read-cell
+shared-slice-read-cell c = search needs
+
+cell-requires : tie.Need-cell-requires
+cell-requires c κs = search needs
 
 mul-work : tie.Need-mul-work
 mul-work c = search needs
@@ -41,18 +77,34 @@ same-length : tie.Need-same-length
 same-length c = search needs
 
 returns : tie.Need-returns
-returns c =
-    let a = start (c .before) in
-    let h = a .pre .0 in
-    let work = a .args .work .now in
-    let value = renewed-worth 0 (marks a) work (a .args .k) _ _ (h .ready .checked) (h .in-strip) (omega arith) (omega arith) (h .partly) in
-    record {
-      partly =
-          set-cell 0 (marks a) (a .args .k) work (a .args .above) (a .args .below) _ (omega arith) (omega arith) (c .most .ensures ∙ value) (h .partly);
-      rest-kept = drop-set-lt workNamed work (cellOf (a .args .above) (a .args .below)) (c .most .result) (omega arith);
-    }
+returns c = rw (c .cell .ensures) refl
 
 pub renew-cell-spec : {M : Type 1} → statement M
 renew-cell-spec =
     tie.close
-    (tie.spec most-requires mul-work add-work mul-work-2 slice-write-work same-length returns)
+    (tie.spec
+    mul-stay
+    add-stay
+    mul-stay-2
+    slice-read-stay
+    mul-above-left
+    add-above-left
+    mul-above-left-2
+    add-above-left-2
+    mul-above-left-3
+    slice-read-above-left
+    mul-above-right
+    add-above-right
+    mul-above-right-2
+    add-above-right-2
+    mul-above-right-3
+    slice-read-above-right
+    mul-cell
+    shared-slice-read-cell
+    cell-requires
+    mul-work
+    add-work
+    mul-work-2
+    slice-write-work
+    same-length
+    returns)

@@ -48,8 +48,8 @@ other-side-requires c κs = (
   found-within _ _ _ _ _ _ _ _ (turn c .loop .inv .0) (found c .furthest-slide .ensures),
 )
 
-larger-u16-requires : tie.Need-larger-u16-requires Inv-loop μ-loop
-larger-u16-requires c κs = search needs
+larger-requires : tie.Need-larger-requires Inv-loop μ-loop
+larger-requires c κs = search needs
 
 add-work : tie.Need-add-work Inv-loop μ-loop
 add-work c = omega arith
@@ -67,7 +67,7 @@ loop-again : tie.Need-loop-again Inv-loop μ-loop
 loop-again c =
     let read : tie.After-own-side Inv-loop μ-loop = c .before .before in (
       scanned-more _ _ _ _ _ (turn read .loop .d) _ _ (turn read .loop .inv .0) (found read .furthest-slide .ensures) _ _ _ _
-          (read .own-side .ensures) (c .before .other-side .ensures) (c .larger-u16 .ensures) (omega arith) (omega arith) (omega arith),
+          (read .own-side .ensures) (c .before .other-side .ensures) (c .larger .ensures) (omega arith) (omega arith) (omega arith),
       omega arith,
     )
 
@@ -94,7 +94,7 @@ fill-row-spec =
     furthest-slide-requires
     own-side-requires
     other-side-requires
-    larger-u16-requires
+    larger-requires
     add-work
     mul-work
     slice-write-work
