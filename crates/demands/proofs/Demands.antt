@@ -1,4 +1,4 @@
--- The three demands, proved. What the checks refuse is in Refusals; what holds past them is what FullNumber, BestAndFull and RoundTrips
+-- The three demands, proved. What the checks refuse is in Refusals; what holds past them is what FullNumber, BestAndFull and TripsByContracts
 -- say of the calls, and what geometry's theorems say of the definitions.
 use mathlib.Core.Path.{_≡_}
 use mathlib.Core.Bool.{Bool, true, false}
@@ -14,7 +14,7 @@ use Rattle.demands.specs.Demands.{Demand1, Demand2, Demand3}
 use Rattle.demands.proofs.Refusals.{full-refused, slide-refused, best-refused}
 use Rattle.demands.proofs.FullNumber.{answers, first-placed, none-listed, none-exactly}
 use Rattle.demands.proofs.BestAndFull.{best-chosen, best-and-full}
-use Rattle.demands.proofs.RoundTrips.{not-read, strip-read, not-written, job-written, job-back, strip-back}
+use Rattle.demands.proofs.TripsByContracts.{not-read, strip-read, not-written, job-written, job-back, strip-back}
 
 -- the number of the slide pass past its checks
 slide-zero-or-11 : (slides : Bool) (n : ℕ) → n ≡ numberOf (slideVerdict accepted slides) → (n ≡ 0) ⊎ (n ≡ refusalNumber noPlacing)

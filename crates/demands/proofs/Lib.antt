@@ -2,7 +2,7 @@
 pub mod Refusals
 pub mod FullNumber
 pub mod BestAndFull
-pub mod RoundTrips
+pub mod TripsByContracts
 pub mod Demands
 pub mod Comparison
 pub mod ThereAndBack

@@ -10,7 +10,7 @@ use Rattle.job.specs.Calls.{ReadContract, WriteContract}
 use Rattle.job.specs.declared.answer.Read.{Read}
 use Rattle.job.specs.declared.answer.Written.{Written}
 use Rattle.demands.specs.Trips.{JobThereAndBack, MarksThereAndBack}
-use Rattle.demands.proofs.RoundTrips.{job-back, too-long-back, strip-back, too-short-back}
+use Rattle.demands.proofs.TripsByContracts.{job-back, too-long-back, strip-back, too-short-back}
 
 -- a job that is read, and written back
 module _ {job : List ℕ} {lent left : Strip} (read : Read) (call : ReadContract job lent left read) {output : List ℕ} where
