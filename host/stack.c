@@ -95,22 +95,13 @@ static __typeof__(strip_best) *volatile best;
 static __typeof__(strip_read) *volatile read_job;
 static __typeof__(strip_write) *volatile write_job;
 
-static void call_the_calls(void)
+static void call_the_calls(int calls)
 {
-    full = strip_full;
-    slide = strip_slide;
-    best = strip_best;
-    read_job = strip_read;
-    write_job = strip_write;
-}
-
-static void call_the_empty_function(void)
-{
-    full = empty;
-    slide = empty;
-    best = empty;
-    read_job = empty;
-    write_job = empty;
+    full = calls ? strip_full : empty;
+    slide = calls ? strip_slide : empty;
+    best = calls ? strip_best : empty;
+    read_job = calls ? strip_read : empty;
+    write_job = calls ? strip_write : empty;
 }
 
 static void at_full(void)
@@ -221,9 +212,9 @@ static int measure(const char *name, void (*at)(void), size_t most, size_t named
     int i;
 
     site = at;
-    call_the_empty_function();
+    call_the_calls(0);
     caller = touched();
-    call_the_calls();
+    call_the_calls(1);
     state = 1;
     for (i = 0; i < CALLS; i++) {
         size_t taken;

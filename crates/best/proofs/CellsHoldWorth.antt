@@ -21,8 +21,12 @@ use Rattle.best.specs.inner.Worth.{earnedBy, worth}
 use Rattle.best.specs.inner.Names.{names, nameOf, lastAfter, reachAt}
 use Rattle.best.specs.inner.Checked.{Checked}
 use Rattle.best.specs.inner.Table.{cellOf, cellAfter, cellWorth, Partly}
-use Rattle.best.specs.inner.Trial.{roomAt, gainAt, mostAt}
+use Rattle.best.specs.inner.Trial.{roomAt, gainAt}
 use Rattle.best.proofs.NamedReaches.{above-named, below-named}
+
+-- the most that mark k and the marks after it earn, by the table, over the positions that have room
+abbrev pub mostAt : ℕ → Strip → List ℕ → ℕ → ℕ → ℕ → ℕ
+mostAt g s work k x y = greatestOf (roomAt g s k x y) (gainAt (s .weights) work k x y) everyPosition
 
 -- half the name of a label is the number of its mark
 name-number : (k : ℕ) (d : Direction) → nameOf k d / 2 ≡ suc k

@@ -21,9 +21,9 @@ use Rattle.best.specs.Best.{workNamed}
 use Rattle.best.specs.declared.row.Row.{Row}
 use Rattle.best.specs.inner.Names.{namesBefore, nameOf, reachAt}
 use Rattle.best.specs.inner.Table.{cellOf, Renewing, Renewed}
-use Rattle.best.specs.inner.Trial.{mostAt, BeforeMark}
+use Rattle.best.specs.inner.Trial.{BeforeMark}
 use Rattle.best.specs.inner.Row.{RowOf, cellBy, CellAsked}
-use Rattle.best.proofs.CellsHoldWorth.{renewed-worth}
+use Rattle.best.proofs.CellsHoldWorth.{mostAt, renewed-worth}
 use Rattle.best.proofs.TableRenewed.{set-cell}
 use Rattle.best.proofs.CellsAreSmall.{before-partly}
 

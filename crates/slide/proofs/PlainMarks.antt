@@ -15,9 +15,13 @@ use Rattle.geometry.specs.Mark.{Mark, placeInRange, lengthInRange, mostLength}
 use Rattle.geometry.proofs.Split.{and-fst, and-snd}
 use Rattle.geometry.proofs.Accepted.{every-at, first-good, rest-good}
 use Rattle.geometry.proofs.Dots.{range-dots}
-use Rattle.slide.specs.inner.Plain.{plainMark, plainMarks, plainAt, Checked}
+use Rattle.slide.specs.inner.Plain.{plainMark, plainMarks, Checked}
 use Rattle.slide.specs.inner.Room.{GoodLabel}
 use Rattle.slide.proofs.ExactCells.{Inside}
+
+-- the mark at an index
+abbrev pub plainAt : List ℤ → List ℕ → ℕ → Mark
+plainAt places lengths i = plainMark (dot (getD places i (pos 0))) (getD lengths i 0)
 
 -- the ranges of place and length leave dots enough on either side of the place
 good-label : (z : ℤ) (l : ℕ) → placeInRange z ≡ true → lengthInRange l ≡ true → GoodLabel (plainMark (dot z) l)

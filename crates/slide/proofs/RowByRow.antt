@@ -10,11 +10,11 @@ use lib.Seq.{drop-drop, getD-drop}
 use Rattle.geometry.specs.Dot.{dot}
 use Rattle.geometry.specs.Mark.{Mark}
 use Rattle.slide.specs.Slide.{workNamed}
-use Rattle.slide.specs.inner.Plain.{plainMark, plainMarks, plainAt, Checked}
+use Rattle.slide.specs.inner.Plain.{plainMark, plainMarks, Checked}
 use Rattle.slide.specs.inner.Room.{noBound, reachAt, roomBefore, room}
 use Rattle.slide.specs.inner.Table.{rowCells, rowFrom, FilledTo, rowBefore, TableHolds, RowsFrom, TableFrom}
 use Rattle.slide.proofs.FilledRows.{room-same}
-use Rattle.slide.proofs.PlainMarks.{label-at, marks-from, marks-end}
+use Rattle.slide.proofs.PlainMarks.{plainAt, label-at, marks-from, marks-end}
 
 -- the rows from an index on are a part of the table
 pub rows-from : (cells : List ℕ) (ms : List Mark) (i : ℕ) → TableHolds cells ms → RowsFrom cells i ms

@@ -16,13 +16,13 @@ use Rattle.geometry.specs.Sliding.{edgesFrom}
 use Rattle.geometry.specs.Pass.{written}
 use Rattle.geometry.specs.inner.Place.{placeOf}
 use Rattle.slide.specs.Slide.{workNamed}
-use Rattle.slide.specs.inner.Plain.{plainMarks, plainAt, Checked}
+use Rattle.slide.specs.inner.Plain.{plainMarks, Checked}
 use Rattle.slide.specs.inner.Room.{noBound, slideable}
 use Rattle.slide.specs.inner.Table.{rowCells, rowFrom, RowHolds, TableHolds}
 use Rattle.slide.specs.inner.Walk.{takesAbove, sideOf, sideBefore, sidesFrom, LabelOn, StepReady, fitsPlain}
 use Rattle.slide.proofs.ExactCells.{Inside, cellsOf}
 use Rattle.slide.proofs.WalkAllowed.{Goes, walk-goes, below-small, walk-length}
-use Rattle.slide.proofs.PlainMarks.{inside-drop, marks-inside, marks-length, label-at, marks-from, marks-end}
+use Rattle.slide.proofs.PlainMarks.{plainAt, inside-drop, marks-inside, marks-length, label-at, marks-from, marks-end}
 use Rattle.slide.proofs.FilledRows.{own-same}
 use Rattle.slide.proofs.RowByRow.{rows-from}
 use Rattle.slide.proofs.WrittenSoFar.{WrittenTo, written-none, written-more, written-all}

@@ -7,10 +7,10 @@ use Prim.Native.Nat.{ℕ, _+_, _*_, _/_, _≤_, _<_}
 use lib.Dec.{eqb}
 use lib.IntN.{ℤ}
 use lib.ListN.{length, getD}
-use Rattle.geometry.specs.Lists.{every, firstOf, greatestOf}
+use Rattle.geometry.specs.Lists.{every, firstOf}
 use Rattle.geometry.specs.Mark.{placeInRange, mostWeight}
 use Rattle.geometry.specs.Strip.{Strip, mostShort}
-use Rattle.geometry.specs.Position.{Position, ranked, everyPosition}
+use Rattle.geometry.specs.Position.{Position, ranked}
 use Rattle.geometry.specs.inner.Machine.{roomFor}
 use Rattle.best.specs.Best.{workNamed}
 use Rattle.best.specs.inner.Worth.{earnedBy, orUnlabelled}
@@ -54,10 +54,6 @@ roomAt g s k x y p = roomFor (reachAt g s x) (reachAt g s y) (labelAt (s .places
 
 abbrev pub gainAt : List ℕ → List ℕ → ℕ → ℕ → ℕ → Position → ℕ
 gainAt ws work k x y p = earnedBy (getD ws k 0) p + getD work (cellAfter k x y p) 0
-
--- the most of all positions that have room
-abbrev pub mostAt : ℕ → Strip → List ℕ → ℕ → ℕ → ℕ → ℕ
-mostAt g s work k x y = greatestOf (roomAt g s k x y) (gainAt (s .weights) work k x y) everyPosition
 
 -- it has room and earns exactly target
 abbrev pub attainsAt : ℕ → Strip → List ℕ → ℕ → ℕ → ℕ → ℕ → Position → Bool

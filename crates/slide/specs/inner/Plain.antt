@@ -3,8 +3,8 @@ use Prim.Native.Nat.{ℕ, _≤_}
 use mathlib.Core.Path.{_≡_}
 use mathlib.Core.List.{List, [], _∷_}
 use mathlib.Core.Bool.{true}
-use lib.IntN.{ℤ, pos}
-use lib.ListN.{length, getD}
+use lib.IntN.{ℤ}
+use lib.ListN.{length}
 use Rattle.geometry.specs.Dot.{dot}
 use Rattle.geometry.specs.Lists.{every}
 use Rattle.geometry.specs.Mark.{Mark, placeInRange, lengthInRange}
@@ -18,10 +18,6 @@ unfoldable pub plainMarks : List ℤ → List ℕ → List Mark
 plainMarks [] ls = []
 plainMarks (z ∷ zs) [] = []
 plainMarks (z ∷ zs) (l ∷ ls) = plainMark (dot z) l ∷ plainMarks zs ls
-
--- the mark at an index
-abbrev pub plainAt : List ℤ → List ℕ → ℕ → Mark
-plainAt places lengths i = plainMark (dot (getD places i (pos 0))) (getD lengths i 0)
 
 -- what the checks on entry leave for the inner functions
 pub record Checked (places : List ℤ) (lengths : List ℕ) : Type 0 where
