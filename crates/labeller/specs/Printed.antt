@@ -1,5 +1,5 @@
--- What the program writes to standard output: the whole listing of what it read. An output that holds the longest text is never too small, so
--- there is always something to write.
+-- What the program is to write to standard output: the whole listing of the job that it was handed. An output that holds the longest text is
+-- never too small, so there is always something to write.
 use Prim.Native.Nat.{ℕ, _≤_}
 use mathlib.Core.List.{List}
 use lib.ListN.{length, take}
