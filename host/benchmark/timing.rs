@@ -1,4 +1,4 @@
-// Medians of many rounds, the two sides in turn. A round goes once through a set of strips, so that no branch predictor learns one
+// Medians of many rounds, the sides in turn. A round goes once through a set of strips, so that no branch predictor learns one
 // strip by heart. Time is the processor time of this thread, so that other work on the machine does not count.
 use crate::lists::Lists;
 use crate::strips::Strip;
@@ -29,10 +29,17 @@ pub struct Row {
     pub name: &'static str,
     pub exported: f64,
     pub plain: f64,
+    pub before: Option<f64>,
 }
 
 // A call on a strip and its job, with what it is lent.
 type Run = fn(&Strip, &[u8], &mut Lists);
+
+pub struct Sides {
+    pub exported: Run,
+    pub plain: Run,
+    pub before: Option<Run>,
+}
 
 // One side: its lists for each strip, warm after the first round.
 struct Side<'a> {
@@ -63,26 +70,30 @@ impl Side<'_> {
     }
 }
 
-fn in_turn(one: &mut Side, other: &mut Side) {
+fn in_turn(sides: &mut [Side]) {
     for _ in 0..ROUNDS {
-        one.round();
-        other.round();
+        for side in sides.iter_mut() {
+            side.round();
+        }
     }
 }
 
-// Both sides on the same strips, which must be given the number and the same answers.
-pub fn row(name: &'static str, strips: &[Strip], jobs: &[Vec<u8>], number: u8, exported: Run, plain: Run) -> Row {
-    let (mut ours, mut theirs) = (Side::new(exported, strips, jobs), Side::new(plain, strips, jobs));
-    in_turn(&mut ours, &mut theirs);
-    assert!(ours.lists.iter().all(|lists| lists.number == number), "{name}: another number than {number}");
-    assert!(ours.lists == theirs.lists, "{name}: plain Rust gives another answer");
-    Row { name, exported: ours.median(), plain: theirs.median() }
+// All sides on the same strips, which must be given the number, and by plain Rust the same answers.
+pub fn row(name: &'static str, strips: &[Strip], jobs: &[Vec<u8>], number: u8, runs: Sides) -> Row {
+    let all = [Some(runs.exported), Some(runs.plain), runs.before];
+    let mut sides: Vec<Side> = all.into_iter().flatten().map(|run| Side::new(run, strips, jobs)).collect();
+    in_turn(&mut sides);
+    let agrees = |side: &Side| side.lists.iter().all(|lists| lists.number == number);
+    assert!(sides.iter().all(agrees), "{name}: another number than {number}");
+    assert!(sides[0].lists == sides[1].lists, "{name}: plain Rust gives another answer");
+    let times: Vec<f64> = sides.iter_mut().map(Side::median).collect();
+    Row { name, exported: times[0], plain: times[1], before: times.get(2).copied() }
 }
 
 // How many times as long a call takes on the second set of strips as on the first.
 pub fn growth(run: Run, strips: &[Strip], more: &[Strip]) -> f64 {
     let jobs = vec![Vec::new(); strips.len().max(more.len())];
-    let (mut less, mut more) = (Side::new(run, strips, &jobs), Side::new(run, more, &jobs));
-    in_turn(&mut less, &mut more);
-    more.median() / less.median()
+    let mut sides = [Side::new(run, strips, &jobs), Side::new(run, more, &jobs)];
+    in_turn(&mut sides);
+    sides[1].median() / sides[0].median()
 }

@@ -61,7 +61,18 @@ pub fn by_reaches(strip: &Strip) -> u32 {
     *sums.values().max().unwrap()
 }
 
-// The listed choice has the reported sum, no overlap, and its marks at 0 are the left-out numbers.
+// The numbers of the marks at 0: one after another, the heaviest of those that are left, and of equals the first.
+fn heaviest_first(strip: &Strip, chosen: &[u8]) -> Vec<u16> {
+    let mut left: Vec<usize> = (0..chosen.len()).filter(|i| chosen[*i] == 0).collect();
+    let mut out = Vec::new();
+    while let Some(most) = left.iter().map(|i| strip.weights[*i]).max() {
+        let at = left.iter().position(|i| strip.weights[*i] == most).unwrap();
+        out.push(left.remove(at) as u16 + 1);
+    }
+    out
+}
+
+// The listed choice has the reported sum and no overlap, and its marks at 0 are listed heaviest first.
 fn choice(strip: &Strip, positions: &Lent<u8>, left_out: &Lent<u16>, sum: u32, count: usize) -> Result<(), String> {
     let chosen = positions.now()[..strip.places.len()].to_vec();
     ensure(chosen.iter().all(|position| *position <= 4), "a position above 4")?;
@@ -70,13 +81,9 @@ fn choice(strip: &Strip, positions: &Lent<u8>, left_out: &Lent<u16>, sum: u32, c
     let labelled = (0..chosen.len()).filter(|i| chosen[*i] != 0);
     let earned: u32 = labelled.map(|i| strip.weights[i] as u32).sum();
     ensure(earned == sum, "a sum that the labels do not earn")?;
-    let out: Vec<u16> = (0..chosen.len()).filter(|i| chosen[*i] == 0).map(|i| i as u16 + 1).collect();
+    let out = heaviest_first(strip, &chosen);
     ensure(count == out.len(), "the count of left-out marks")?;
-    let listed = left_out.now()[..count].to_vec();
-    ensure(left_out.written(&listed), "left-out numbers beyond the used part")?;
-    let mut sorted = listed;
-    sorted.sort_unstable();
-    ensure(sorted == out, "the left-out numbers")
+    ensure(left_out.written(&out), "the left-out list, heaviest first, or what stands behind it")
 }
 
 pub fn compare(random: &mut Random, call: &Call, best_sum: fn(&Strip) -> u32) -> Result<u8, String> {

@@ -76,6 +76,21 @@ fn crowded_call(random: &mut Random, limits: &Limits) -> Call {
     some_call(random, strip, limits, false)
 }
 
+// 40 to 60 marks, of which at most four find room: each label is longer than all places lie apart. Few different weights, six times or
+// more 1 and six times or more 1,000, so that two of each at least are left out.
+fn many_left_out_call(random: &mut Random, limits: &Limits) -> Call {
+    let marks = random.between(40, 60) as usize;
+    let mut strip = any_strip(random, marks, Shape { gap: 2, length: 1 });
+    strip.lengths = strip.places.iter().map(|_| random.between(120, 240) as u8).collect();
+    let middle = random.between(2, 999) as u16;
+    let weights = [[1, 1, 1_000, 1_000], [1, middle, middle, 1_000], [1, 2, 999, 1_000]][random.below(3)];
+    let often = |strip: &Strip, weight: u16| strip.weights.iter().filter(|w| **w == weight).count() >= 6;
+    while !(often(&strip, 1) && often(&strip, 1_000)) {
+        strip.weights = strip.places.iter().map(|_| weights[random.below(4)]).collect();
+    }
+    some_call(random, strip, limits, false)
+}
+
 #[derive(Debug)]
 struct ReadCase {
     bytes: Vec<u8>,
@@ -178,6 +193,14 @@ pub fn run_all() -> usize {
             1_500,
             &[0, 6, 7, 8, 9, 10],
             |r| large_call(r, &best::LIMITS),
+            |r, c| best::compare(r, c, best::by_reaches),
+        ),
+        group(
+            "best, all but four left out, all reaches",
+            13,
+            1_500,
+            &[0],
+            |r| many_left_out_call(r, &best::LIMITS),
             |r, c| best::compare(r, c, best::by_reaches),
         ),
         group("read, to 40 marks", 9, 30_000, &[0, 1, 2, 3, 4, 5, 9], |r| read_case(r, 40), reader),

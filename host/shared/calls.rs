@@ -1,8 +1,11 @@
 // The five calls of include/strip.h, on slices: a slice is a pointer and its count of elements, never null and never overlapping
-// another that is lent to the same call, so every use is within the header's rules.
+// another that is lent to the same call, so every use is within the header's rules. Built with `--cfg before` they are those of the
+// archive of an earlier commit, whose names host/bench lengthens so that both can be linked.
 
-#[link(name = "exports", kind = "static")]
+#[cfg_attr(not(before), link(name = "exports", kind = "static"))]
+#[cfg_attr(before, link(name = "before", kind = "static"))]
 extern "C" {
+    #[cfg_attr(before, link_name = "before_strip_full")]
     fn strip_full(
         places: *const i16,
         places_len: usize,
@@ -15,6 +18,7 @@ extern "C" {
         work: *mut i16,
         work_len: usize,
     ) -> u8;
+    #[cfg_attr(before, link_name = "before_strip_slide")]
     fn strip_slide(
         places: *const i16,
         places_len: usize,
@@ -29,6 +33,7 @@ extern "C" {
         work: *mut u16,
         work_len: usize,
     ) -> u8;
+    #[cfg_attr(before, link_name = "before_strip_best")]
     fn strip_best(
         places: *const i16,
         places_len: usize,
@@ -45,6 +50,7 @@ extern "C" {
         sum: *mut u32,
         count: *mut usize,
     ) -> u8;
+    #[cfg_attr(before, link_name = "before_strip_read")]
     fn strip_read(
         job: *const u8,
         job_len: usize,
@@ -56,6 +62,7 @@ extern "C" {
         weights_len: usize,
         count: *mut usize,
     ) -> u8;
+    #[cfg_attr(before, link_name = "before_strip_write")]
     fn strip_write(
         places: *const i16,
         places_len: usize,

@@ -1,13 +1,14 @@
 -- The best pass meets its contract.
 -- A number that is not 0 is that of the first check that is not passed, and nothing has been touched. Number 0 says that checks 6 to 10
 -- are passed, so the places rise; then the walk's choice is overlap-free and earns the best sum, and the zeros among the position
--- numbers are the marks left out.
+-- numbers, heaviest first, are its left-out list.
 use mathlib.Core.Path.{_≡_, refl, sym, _∙_, ap}
 use mathlib.Core.List.{List, map}
 use Prim.Native.Nat.{ℕ, _≤_, min}
 use native.Mathlib.Omega.{arith}
 use lib.ListN.{length, take, drop, length-map}
 use lib.Seq.{take-at}
+use Rattle.geometry.specs.Mark.{mostWeight}
 use Rattle.geometry.specs.Strip.{Strip, marksOf, mostShort}
 use Rattle.geometry.specs.Pass.{passVerdict, written}
 use Rattle.geometry.specs.Position.{code}
@@ -15,11 +16,12 @@ use Rattle.geometry.specs.Refusal.{accepted, numberOf}
 use Rattle.geometry.proofs.Accepted.{Accepted, pass-accepted, accepted-rising, length-marks}
 use Rattle.geometry.proofs.Verdicts.{zero-accepted}
 use Rattle.best.specs.Best.{workNamed, BestLent, bestChecks, BestContract}
+use Rattle.best.specs.LeftOut.{byWeight, leftOut}
 use Rattle.best.specs.inner.Worth.{wholeChoice}
 use Rattle.best.specs.inner.Checked.{Checked, Labelled}
-use Rattle.best.specs.inner.Zeros.{zerosFrom}
+use Rattle.best.specs.inner.Insertion.{zerosByWeight}
 use Rattle.best.proofs.WorthIsBest.{best-free, best-earns, best-length, worth-best}
-use Rattle.best.proofs.ZerosAreLeftOut.{zeros-left-out}
+use Rattle.best.proofs.ZerosListed.{zeros-are-left-out}
 
 module _ (s : Strip) (entry : BestLent) (n : ℕ) where
   -- the number, where the shorter answer list has been found
@@ -66,22 +68,24 @@ module _ (s : Strip) (entry : BestLent) (ok : bestChecks s entry ≡ accepted) w
   abbrev codes : List ℕ
   codes = map code (wholeChoice 0 s)
 
-  codes-length : length codes ≡ length (s .places)
+  codes-length : length codes ≡ length (s .weights)
   codes-length =
       let a = passed .0 in
-      length-map (wholeChoice 0 s) code ∙ best-length 0 _ _ (marksOf s) ∙ length-marks s (a .same-lengths) (a .same-weights)
+      length-map (wholeChoice 0 s) code ∙ best-length 0 _ _ (marksOf s) ∙ length-marks s (a .same-lengths) (a .same-weights) ∙ a .same-weights
 
-  -- accepted: from what labelling leaves, and from the zeros that were listed
+  -- accepted: from what labelling leaves, and from the zeros that were listed, heaviest first
   pub answer-accepted : (exit : BestLent) (sum count : ℕ)
       → Labelled s (entry .positions) (exit .positions) (entry .work) (exit .work) sum
-      → exit .left-out ≡ written (zerosFrom 1 (take (length (s .places)) (exit .positions))) (entry .left-out)
-      → count ≡ length (zerosFrom 1 (take (length (s .places)) (exit .positions)))
+      → exit .left-out ≡ written (zerosByWeight (s .weights) (take (length (s .weights)) (exit .positions))) (entry .left-out)
+      → count ≡ length (zerosByWeight (s .weights) (take (length (s .weights)) (exit .positions)))
       → BestContract s entry exit (record { number = 0; sum = sum; count = count })
   answer-accepted exit sum count labelled listed counted =
       let rising = accepted-rising mostShort s (passed .0) in
-      let used : take (length (s .places)) (exit .positions) ≡ codes =
-      ap (take (length (s .places))) (labelled .positions-written)
-      ∙ take-at codes (drop (length codes) (entry .positions)) (length (s .places)) codes-length in
+      let used : take (length (s .weights)) (exit .positions) ≡ codes =
+      ap (take (length (s .weights))) (labelled .positions-written)
+      ∙ take-at codes (drop (length codes) (entry .positions)) (length (s .weights)) codes-length in
+      let out : zerosByWeight (s .weights) (take (length (s .weights)) (exit .positions)) ≡ leftOut (s .weights) (wholeChoice 0 s) =
+      ap (zerosByWeight (s .weights)) used ∙ ap (byWeight (s .weights) mostWeight) (zeros-are-left-out 1 (wholeChoice 0 s)) in
       record {
         number-is = sym (ap numberOf ok);
         where-refused = λ no. absurd (no ok);
@@ -92,10 +96,8 @@ module _ (s : Strip) (entry : BestLent) (ok : bestChecks s entry ≡ accepted) w
               overlap-free = best-free 0 (marksOf s) rising;
               sum-earned = labelled .sum-is ∙ sym (best-earns 0 _ _ (marksOf s));
               sum-best = labelled .sum-is ∙ worth-best 0 (marksOf s) rising;
-              out = zerosFrom 1 codes;
-              out-listed = zeros-left-out (wholeChoice 0 s);
-              out-written = listed ∙ ap (λ (l : List ℕ). written (zerosFrom 1 l) (entry .left-out)) used;
-              out-counted = counted ∙ ap (λ (l : List ℕ). length (zerosFrom 1 l)) used;
+              out-written = listed ∙ ap (λ (l : List ℕ). written l (entry .left-out)) out;
+              out-counted = counted ∙ ap length out;
               work-cleared = labelled .work-cleared;
             };
       }

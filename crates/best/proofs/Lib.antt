@@ -10,5 +10,12 @@ pub mod RenewedInParts
 pub mod CellsAreSmall
 pub mod RowGivesCells
 pub mod WalkIsBest
-pub mod ZerosAreLeftOut
+pub mod ByWeight
+pub mod ListedFew
+pub mod LeftOutOnce
+pub mod HeaviestFirst
+pub mod OneList
+pub mod LeftOutExample
+pub mod Insertion
+pub mod ZerosListed
 pub mod Contract

@@ -1,6 +1,6 @@
 -- "Best: the sum, a position for each mark (0 for none; no two of the labels overlap), the list of left-out mark numbers and its
--- length. Which choice among equal sums, and the order of the left-out list, are open." (Weighted Max-1d-4P, with a witness.)
--- The pass takes a short strip: 0 to 60 marks.
+-- length." Which choice among equal sums is open; "the best pass lists left-out marks by falling weight, and equal weights by rising
+-- mark number" (document 02, P1). (Weighted Max-1d-4P, with a witness.) The pass takes a short strip: 0 to 60 marks.
 use mathlib.Core.Path.{_≡_}
 use mathlib.Core.List.{List, map}
 use mathlib.Core.Bool.{true}
@@ -13,7 +13,7 @@ use Rattle.geometry.specs.Placing.{sumOf, bestSum}
 use Rattle.geometry.specs.Pass.{passVerdict, written, cleared}
 use Rattle.geometry.specs.Refusal.{Verdict, accepted, numberOf}
 use Rattle.best.specs.declared.answer.Best.{Best}
-use Rattle.best.specs.LeftOut.{ListsLeftOut}
+use Rattle.best.specs.LeftOut.{leftOut}
 
 -- "Work areas, lent by the caller: [..] best pass 15,000 of 32 bits, whatever the strip."
 abbrev pub workNamed : ℕ
@@ -50,11 +50,9 @@ pub record AcceptedAnswer (s : Strip) (entry exit : BestLent) (r : Best) : Type 
   -- "its sum is that of their weights"; no overlap-free choice has a greater one
   pub sum-earned : r .sum ≡ sumOf (marksOf s) choice
   pub sum-best : r .sum ≡ bestSum 0 (marksOf s)
-  -- "each mark at 0 once, and no other number". The order of the list is open.
-  pub out : List ℕ
-  pub out-listed : ListsLeftOut choice out
-  pub out-written : exit .left-out ≡ written out (entry .left-out)
-  pub out-counted : r .count ≡ length out
+  -- "the list of left-out mark numbers and its length": of the listed choice, heaviest first
+  pub out-written : exit .left-out ≡ written (leftOut (s .weights) choice) (entry .left-out)
+  pub out-counted : r .count ≡ length (leftOut (s .weights) choice)
   -- "the named part of the work area ends as zeros; the rest of it is unchanged"
   pub work-cleared : exit .work ≡ cleared workNamed 0 (entry .work)
 

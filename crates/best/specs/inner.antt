@@ -6,4 +6,4 @@ pub mod Checked
 pub mod Table
 pub mod Trial
 pub mod Row
-pub mod Zeros
+pub mod Insertion

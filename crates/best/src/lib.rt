@@ -1,5 +1,6 @@
 // The best pass: labels in four positions for marks that may go without one, with the greatest sum of weights.
 pub mod answer;
+mod left_out;
 mod name;
 mod position;
 mod room;
@@ -100,7 +101,7 @@ pub fn best(
         };
     }
     let sum = label_marks(places, lengths, weights, positions, work);
-    let count = walk::list_left_out(positions, places.len(), left_out);
+    let count = left_out::list(weights, positions, left_out);
     Best {
         number: 0,
         sum,

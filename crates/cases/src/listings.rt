@@ -1,4 +1,4 @@
-// The listing's bytes, compared whole: strips 4, 6 and 11, no marks, refused jobs, 60 and 61 marks, and 30,000 bytes of input.
+// The listing's bytes, compared whole: strips 4, 6 and 11, several marks left out, no marks, refused jobs, 60 and 61 marks, and 30,000 bytes of input.
 ghost use Prim.Native.Nat.{_≤_};
 ghost use lib.ListN.{length};
 ghost use mathlib.Core.Path.{_≡_};
@@ -44,6 +44,16 @@ fn strips(agreed: u32) -> u32 {
         404,
         b"\x00\x05\x00\x00\x02\x0a\x06\x0a\x00\x09\x06\x0a\x00\x09\x06\x0a\x00\x09\x06\x0a\x00\x09",
         b"marks 5\nfull none\nslide none\nbest 36 of 37\nout 1\n",
+    )
+}
+
+// Seven marks side by side with weights 9, 5, 1, 9, 5, 9, 9: those left out stand heaviest first.
+fn left_out(agreed: u32) -> u32 {
+    gives(
+        agreed,
+        405,
+        b"\x00\x07\x00\x00\x06\x0a\x00\x09\x06\x0a\x00\x05\x02\x0a\x06\x0a\x00\x09\x06\x0a\x00\x05\x06\x0a\x00\x09\x06\x0a\x00\x09",
+        b"marks 7\nfull none\nslide none\nbest 36 of 47\nout 2 5 3\n",
     )
 }
 
@@ -129,5 +139,5 @@ fn lent(agreed: u32) -> u32 {
 }
 
 pub fn listings() -> u32 {
-    lent(many(refused(strips(0))))
+    lent(many(refused(left_out(strips(0)))))
 }

@@ -1,6 +1,7 @@
 // A test program: document 01's strips, each boundary, and random strips against a plain search through all choices. It prints a
 // line for each group, and a line for each case or strip that disagrees.
 mod choices;
+mod crowds;
 mod jobs;
 mod labels;
 mod left_out;
@@ -34,6 +35,16 @@ fn random_corners() {
     random::random(b"best random", choices::BEST, 2, draw);
 }
 
+// Marks side by side with labels longer than all of them lie apart: of 6 marks two are left out.
+fn random_crowds() {
+    let crowd = Draw {
+        steps: 1,
+        shortest: 12,
+        spread: 24,
+    };
+    random::random(b"best random, crowded", choices::BEST, 5, crowd);
+}
+
 // Labels of up to 4 dots, with which 6 marks always fit, and of 4 to 7.
 fn random_slides() {
     let short = Draw {
@@ -55,7 +66,9 @@ fn main() {
     tally::print_group(b"ranges", ranges::ranges());
     tally::print_group(b"lent memory", lent::lent());
     tally::print_group(b"job bytes", jobs::jobs());
+    tally::print_group(b"left-out lists", crowds::crowds());
     tally::print_group(b"listings", listings::listings());
     random_corners();
+    random_crowds();
     random_slides();
 }

@@ -1,5 +1,5 @@
 // The best pass on random strips: the greatest sum over all overlap-free choices, that the listed choice is overlap-free and
-// earns the sum, and the left-out set.
+// earns the sum, and the left-out list.
 use crate::choices;
 use crate::labels;
 use crate::left_out;
@@ -30,7 +30,7 @@ fn agrees(
 ) -> bool {
     best.number == 0
         && earns(dots, lengths, weights, positions, best.sum)
-        && left_out::is_left_out_set(dots.len(), positions, left_out, best.count)
+        && left_out::is_left_out_list(positions, weights, left_out, best.count)
 }
 
 // One strip.

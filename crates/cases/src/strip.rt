@@ -52,8 +52,16 @@ fn length_from(seed: u64, shortest: u8, spread: u64) -> u8 {
     ((shortest as u64 + below(seed, spread)) % 256) as u8
 }
 
+// Often the least or the greatest weight, so that equal ones are many.
 fn weight_from(seed: u64) -> u16 {
-    ((1 + below(seed, 9)) % 256) as u16
+    let weight = below(seed, 9);
+    if weight < 3 {
+        return 1;
+    }
+    if weight < 6 {
+        return 1000;
+    }
+    weight as u16
 }
 
 // Puts the marks that follow a seed into the lists, and gives the seed of the next strip.

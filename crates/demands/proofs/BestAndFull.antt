@@ -1,11 +1,13 @@
 -- Best and full on one strip. Past its checks the best pass lists an overlap-free choice that earns the best sum, and no overlap-free
--- choice exceeds that. Each weight is at least 1, so the choice has a label for each mark exactly if its sum is the weight of all marks;
--- the best sum is that exactly if there is a placing, and the full pass gives 0 exactly if there is one.
+-- choice exceeds that; its left-out list has what is proved of such lists. Each weight is at least 1, so the choice has a label for each
+-- mark exactly if its sum is the weight of all marks; the best sum is that exactly if there is a placing, and the full pass gives 0
+-- exactly if there is one.
 use mathlib.Core.Path.{_≡_, sym, _∙_, ap}
 use mathlib.Core.Bool.{true}
 use mathlib.Core.Logic.{_↔_, Iff·trans}
 use mathlib.Core.Option.{none}
-use Prim.Native.Nat.{ℕ, min}
+use Prim.Native.Nat.{ℕ, _≤_, min}
+use native.Mathlib.Omega.{arith}
 use lib.ListN.{length}
 use Rattle.geometry.specs.Lists.{sumList}
 use Rattle.geometry.specs.Strip.{Strip, marksOf, mostShort}
@@ -13,12 +15,15 @@ use Rattle.geometry.specs.Overlap.{allLabelled}
 use Rattle.geometry.specs.Placing.{firstPlacing}
 use Rattle.geometry.specs.Refusal.{accepted}
 use Rattle.geometry.proofs.Verdicts.{zero-accepted}
-use Rattle.geometry.proofs.Accepted.{Accepted, pass-accepted}
+use Rattle.geometry.proofs.Accepted.{Accepted, pass-accepted, length-marks}
 use Rattle.geometry.proofs.Best.{free-length, best-bounds}
 use Rattle.geometry.proofs.Whole.{weightsOf, weights-of-marks, heavy-marks, sum-of-all, all-earn, best-whole-iff-placing}
 use Rattle.full.specs.Full.{FullLent, fullChecks, FullContract}
 use Rattle.best.specs.declared.answer.Best.{Best}
 use Rattle.best.specs.Best.{workNamed, BestLent, bestChecks, AcceptedAnswer, BestContract}
+use Rattle.best.proofs.LeftOutOnce.{each-left-out-once}
+use Rattle.best.proofs.HeaviestFirst.{heaviest-first}
+use Rattle.best.proofs.OneList.{no-other-list}
 use Rattle.demands.specs.Demands.{BestChosen, BestAndFull}
 use Rattle.demands.proofs.FullNumber.{fits-exactly}
 
@@ -32,6 +37,20 @@ module _ (s : Strip) (lent left : BestLent) (answer : Best) (call : BestContract
   abbrev listed : AcceptedAnswer s lent left answer
   listed = call .where-accepted best-passed
 
+  -- the strip is accepted
+  good : Accepted mostShort s
+  good = pass-accepted mostShort s (min (length (lent .positions)) (length (lent .left-out))) workNamed (length (lent .work)) best-passed .0
+
+  -- the choice has an entry for each weight
+  enough-weights : length (listed .choice) ≤ length (s .weights)
+  enough-weights =
+      omega (
+        arith,
+        free-length 0 (marksOf s) (listed .choice) (listed .overlap-free),
+        length-marks s (good .same-lengths) (good .same-weights),
+        good .same-weights,
+      )
+
   -- what it lists is a choice of the greatest sum, with its left-out marks
   pub best-chosen : BestChosen s lent left answer
   best-chosen =
@@ -41,15 +60,12 @@ module _ (s : Strip) (lent left : BestLent) (answer : Best) (call : BestContract
         overlap-free = listed .overlap-free;
         sum-earned = listed .sum-earned;
         greatest = λ other overlap-free. rw (listed .sum-best) (best-bounds 0 (marksOf s) other overlap-free);
-        out = listed .out;
-        out-listed = listed .out-listed;
         out-written = listed .out-written;
         out-counted = listed .out-counted;
+        out-once = each-left-out-once (s .weights) (listed .choice) enough-weights (good .weights-good);
+        out-ordered = heaviest-first (s .weights) (listed .choice);
+        out-only = λ other. no-other-list (s .weights) (listed .choice) other enough-weights (good .weights-good);
       }
-
-  -- the strip is accepted
-  good : Accepted mostShort s
-  good = pass-accepted mostShort s (min (length (lent .positions)) (length (lent .left-out))) workNamed (length (lent .work)) best-passed .0
 
   -- "The weight of all marks is the sum of the weight list."
   whole : sumList (weightsOf (marksOf s)) ≡ sumList (s .weights)

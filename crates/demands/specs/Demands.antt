@@ -25,7 +25,7 @@ use Rattle.slide.specs.Slide as slide
 use Rattle.slide.specs.Slide.{SlideLent, slideChecks, SlideContract, Placed}
 use Rattle.best.specs.Best as best
 use Rattle.best.specs.Best.{BestLent, bestChecks, BestContract}
-use Rattle.best.specs.LeftOut.{ListsLeftOut}
+use Rattle.best.specs.LeftOut.{leftOut, ListsLeftOut, HeaviestFirst}
 use Rattle.best.specs.declared.answer.Best.{Best}
 use Rattle.job.specs.Number.{Bytes}
 use Rattle.job.specs.Outcome.{given, refusal}
@@ -150,11 +150,14 @@ pub record BestChosen (s : Strip) (lent left : BestLent) (answer : Best) : Type 
   -- "its sum is that of their weights", and no overlap-free choice has a greater one
   pub sum-earned : answer .sum ≡ sumOf (marksOf s) choice
   pub greatest : (other : List Position) → free 0 (marksOf s) other ≡ true → sumOf (marksOf s) other ≤ answer .sum
-  -- "the list of left-out mark numbers and its length": "each mark at 0 once, and no other number"
-  pub out : List ℕ
-  pub out-listed : ListsLeftOut choice out
-  pub out-written : left .left-out ≡ written out (lent .left-out)
-  pub out-counted : answer .count ≡ length out
+  -- "the list of left-out mark numbers and its length": it is the left-out list of the choice
+  pub out-written : left .left-out ≡ written (leftOut (s .weights) choice) (lent .left-out)
+  pub out-counted : answer .count ≡ length (leftOut (s .weights) choice)
+  -- "every left-out mark, each one time", and no other number; "by falling weight, and equal weights by rising mark number"; no other
+  -- list is so
+  pub out-once : ListsLeftOut choice (leftOut (s .weights) choice)
+  pub out-ordered : HeaviestFirst (s .weights) (leftOut (s .weights) choice)
+  pub out-only : (other : List ℕ) → ListsLeftOut choice other → HeaviestFirst (s .weights) other → other ≡ leftOut (s .weights) choice
 
 -- both passes on one strip, past their checks; `number` is the full pass's, which "finds a fit if it gives 0, and none if it gives 11"
 pub record BestAndFull (s : Strip) (lent left : BestLent) (answer : Best) (number : ℕ) : Type 0 where

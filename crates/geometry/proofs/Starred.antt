@@ -15,11 +15,10 @@ use Rattle.geometry.specs.Mark.{Mark}
 use Rattle.geometry.specs.Strip.{marksOfLists, marksOf}
 use Rattle.geometry.specs.Position.{Position, everyPosition, code}
 use Rattle.geometry.specs.Overlap.{apart, free}
-use Rattle.geometry.specs.Placing.{firstPlacing, sumOf, bestSum}
+use Rattle.geometry.specs.Placing.{firstPlacing, sumOf, bestSum, leftOutFrom}
 use Rattle.geometry.specs.Sliding.{edgesFrom, noneBeyond, slidesWhole}
 use Rattle.geometry.specs.Layout.{partLayouts, reach, unbeaten, distinct, unbeatenCount}
 use Rattle.geometry.specs.Worked.{Says, fullIs, fullNone, slideFits, slideNone, bestIs, bestOut, unbeatenIs, HoldsOf, Holds, Claim, starred}
-use Rattle.geometry.specs.Worked.{leftOutFrom}
 use Rattle.geometry.specs.inner.Rising.{Rising}
 use Rattle.geometry.proofs.Split.{both, and-fst, and-snd, clash, or-cases}
 use Rattle.geometry.proofs.Words.{Member}

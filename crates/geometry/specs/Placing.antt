@@ -1,5 +1,5 @@
 -- What the full and the best pass answer, by enumeration of all choices.
-use Prim.Native.Nat.{ℕ, _+_, _<_}
+use Prim.Native.Nat.{ℕ, suc, _+_, _<_}
 use mathlib.Core.Path.{_≡_}
 use mathlib.Core.Bool.{Bool, true}
 use mathlib.Core.Logic.{_⊎_}
@@ -53,3 +53,9 @@ sumOf (m ∷ ms) (at s d ∷ ps) = m .weight + sumOf ms ps
 -- the greatest sum of an overlap-free choice (weighted Max-1d-4P)
 unfoldable pub bestSum : ℕ → List Mark → ℕ
 bestSum g ms = greatestOf (good g ms) (sumOf ms) (wordsOf everyPosition (length ms))
+
+-- the numbers of the marks that a choice leaves at 0, in the order of the strip, counted from k
+unfoldable pub leftOutFrom : ℕ → List Position → List ℕ
+leftOutFrom k [] = []
+leftOutFrom k (unlabelled ∷ ps) = k ∷ leftOutFrom (suc k) ps
+leftOutFrom k (at s d ∷ ps) = leftOutFrom (suc k) ps

@@ -1,5 +1,5 @@
 -- "Strips worked through": the cases marked *, as one list of claims.
-use Prim.Native.Nat.{ℕ, suc, _≤_}
+use Prim.Native.Nat.{ℕ, _≤_}
 use mathlib.Core.Path.{_≡_}
 use mathlib.Core.List.{List, [], _∷_, map}
 use mathlib.Core.Option.{none, some}
@@ -8,9 +8,9 @@ use lib.IntN.{pos}
 use lib.ListN.{length, replicate}
 use Rattle.geometry.specs.Mark.{Mark}
 use Rattle.geometry.specs.Strip.{Strip, strip, marksOf}
-use Rattle.geometry.specs.Position.{Position, unlabelled, at, code}
+use Rattle.geometry.specs.Position.{Position, code}
 use Rattle.geometry.specs.Overlap.{free}
-use Rattle.geometry.specs.Placing.{firstPlacing, sumOf, bestSum}
+use Rattle.geometry.specs.Placing.{firstPlacing, sumOf, bestSum, leftOutFrom}
 use Rattle.geometry.specs.Sliding.{Slides}
 use Rattle.geometry.specs.Layout.{unbeatenCount}
 
@@ -20,12 +20,6 @@ weighted places weights = strip (map pos places) (replicate (length places) 10) 
 
 abbrev pub plain : List ℕ → Strip
 plain places = weighted places (replicate (length places) 1)
-
--- "the list of left-out mark numbers": those of the marks at 0, counted from k
-unfoldable pub leftOutFrom : ℕ → List Position → List ℕ
-leftOutFrom k [] = []
-leftOutFrom k (unlabelled ∷ ps) = k ∷ leftOutFrom (suc k) ps
-leftOutFrom k (at s d ∷ ps) = leftOutFrom (suc k) ps
 
 -- what document 01 says of a strip
 pub data Says : Type 0 where

@@ -7,5 +7,4 @@ pub mod PassAnswers
 pub mod StripText
 pub mod JobText
 pub mod Contract
-pub mod LeftOutFew
 pub mod TextFits

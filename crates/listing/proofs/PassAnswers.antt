@@ -1,7 +1,7 @@
 -- What the contracts of the passes say of a strip that the checks 6 to 10 accept, in the words of the lines: the number of the full pass
 -- and its list give the end of the full line, that of the slide pass whether it fits, and the best pass gives the sum and the numbers of
 -- some choice of the greatest sum.
-use mathlib.Core.Path.{_≡_, refl, sym, _∙_, ap, ap₂, subst}
+use mathlib.Core.Path.{_≡_, refl, sym, _∙_, ap, ap₂}
 use mathlib.Core.Bool.{Bool, true, false}
 use mathlib.Core.List.{List, map}
 use mathlib.Core.Option.{Option, none, some}
@@ -22,7 +22,7 @@ use Rattle.geometry.proofs.Best.{free-length}
 use Rattle.geometry.proofs.Whole.{found-placing}
 use Rattle.full.specs.Full.{FullLent, fullChecks, fullVerdict, positionsAfter, FullContract}
 use Rattle.slide.specs.Slide.{SlideLent, slideChecks, slideVerdict, SlideContract}
-use Rattle.best.specs.LeftOut.{ListsLeftOut}
+use Rattle.best.specs.LeftOut.{leftOut}
 use Rattle.best.specs.Best.{BestLent, bestChecks, AcceptedAnswer, BestContract}
 use Rattle.best.specs.declared.answer.Best.{Best}
 use Rattle.listing.specs.Text.{spaced, fullTail}
@@ -77,15 +77,15 @@ module _ (s : Strip) (lent left : BestLent) (r : Best) (call : BestContract s le
   answer = call .where-accepted passed
 
   -- the left-out list as far as it is used, and that it is long enough
-  used-out : take (r .count) (left .left-out) ≡ answer .out
-  used-out =
-      ap (take (r .count)) (answer .out-written)
-      ∙ take-at (answer .out) (drop (length (answer .out)) (lent .left-out)) (r .count) (sym (answer .out-counted))
+  abbrev out : List ℕ
+  out = leftOut (s .weights) (answer .choice)
+
+  used-out : take (r .count) (left .left-out) ≡ out
+  used-out = ap (take (r .count)) (answer .out-written) ∙ take-at out (drop (length out) (lent .left-out)) (r .count) (sym (answer .out-counted))
 
   count-within : r .count ≤ length (left .left-out)
   count-within =
-      let behind = drop (length (answer .out)) (lent .left-out) in
-      omega (arith, answer .out-counted, ap length (answer .out-written), length-append (answer .out) behind)
+      omega (arith, answer .out-counted, ap length (answer .out-written), length-append out (drop (length out) (lent .left-out)))
 
   -- what the best and the out line say
   pub best-found : BestFound s (r .sum) (r .count) (left .left-out)
@@ -97,6 +97,6 @@ module _ (s : Strip) (lent left : BestLent) (r : Best) (call : BestContract s le
           choice = answer .choice;
           overlap-free = answer .overlap-free;
           greatest = sym (answer .sum-earned) ∙ answer .sum-best;
-          left-out = subst (ListsLeftOut (answer .choice)) (sym used-out) (answer .out-listed);
+          left-out = used-out;
         };
       }

@@ -2,7 +2,7 @@
 -- digits. A refused job has one line of 14 bytes at most. Else there is a count (12), the word of the full line with at most 4,000 numbers,
 -- each of six bytes with its space (24,005, or 10 for "none"), and the slide, best and out line (11, 20 and 364: at most 60 marks are left
 -- out, since each of them is listed once), or the two lines of a strip that is too long (31).
-use mathlib.Core.Path.{_≡_, refl, _∙_}
+use mathlib.Core.Path.{_≡_, refl, _∙_, ap}
 use mathlib.Core.Bool.{Bool, true, false, cond}
 use mathlib.Core.List.{List, [], _∷_, _++_, map}
 use mathlib.Core.Option.{Option, none, some}
@@ -22,6 +22,7 @@ use Rattle.geometry.proofs.Split.{by-leb}
 use Rattle.geometry.proofs.Accepted.{Accepted, entry-accepted, length-marks}
 use Rattle.geometry.proofs.Best.{free-length}
 use Rattle.geometry.proofs.Whole.{found-placing}
+use Rattle.best.proofs.ListedFew.{few-left-out}
 use Rattle.job.specs.Number.{Bytes}
 use Rattle.job.specs.Outcome.{Outcome, given, refusal}
 use Rattle.job.proofs.RoundTrips.{read-accepted}
@@ -45,7 +46,6 @@ use Rattle.listing.specs.Text.{
 }
 use Rattle.listing.specs.Listing.{saidBy, TextOf, textMost, ListingContract}
 use Rattle.listing.specs.declared.answer.Listed.{Listed}
-use Rattle.listing.proofs.LeftOutFew.{few-left-out}
 
 -- two pieces together, and a bound that is wider than need be
 joined-most : (xs ys : List ℕ) {m n : ℕ} → length xs ≤ m → length ys ≤ n → length (xs ++ ys) ≤ m + n
@@ -113,7 +113,8 @@ module _ (job text : List ℕ) (bytes : Bytes job) (t : TextOf job text) where
     few-out short =
         let chosen = t .out-chosen s says short in
         let marks = free-length 0 (marksOf s) (chosen .choice) (chosen .overlap-free) in
-        omega (arith, few-left-out (chosen .choice) (t .out) (chosen .left-out), marks, length-marks s (good .same-lengths) (good .same-weights))
+        let few = few-left-out (s .weights) (chosen .choice) in
+        omega (arith, few, ap length (chosen .left-out), marks, length-marks s (good .same-lengths) (good .same-weights))
 
     -- all lines of a strip below its count
     strip-most : length (stripLines s (t .fits) (t .out)) ≤ 24500

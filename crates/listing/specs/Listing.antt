@@ -1,4 +1,4 @@
--- The contract of the listing: its bytes, up to which choice among equal sums is listed and in what order its left-out marks stand.
+-- The contract of the listing: its bytes, up to which choice among equal sums is listed.
 use Prim.Native.Nat.{ℕ, _≤_}
 use mathlib.Core.Path.{_≡_}
 use mathlib.Core.Logic.{_↔_}
@@ -13,7 +13,7 @@ use Rattle.geometry.specs.Placing.{sumOf, bestSum}
 use Rattle.geometry.specs.Sliding.{Slides}
 use Rattle.geometry.specs.Pass.{written}
 use Rattle.geometry.specs.Refusal.{Verdict, accepted, refused, numberOf, afterCheck, listTooShort}
-use Rattle.best.specs.LeftOut.{ListsLeftOut}
+use Rattle.best.specs.LeftOut.{leftOut}
 use Rattle.job.specs.Outcome.{Outcome, given}
 use Rattle.job.specs.Decode.{decode}
 use Rattle.listing.specs.Text.{listingOf}
@@ -29,12 +29,13 @@ pub record SlidesSomehow (s : Strip) : Type 0 where
   pub whole : 1 ≤ denominator
   pub placing : Slides 0 denominator (marksOf s)
 
--- what is open: an overlap-free choice of the greatest sum, and its left-out marks in some order
+-- what is open: an overlap-free choice of the greatest sum; "the listing's out line shows" its left-out marks "in that order", by
+-- falling weight and equal weights by rising mark number (document 02, P1)
 pub record Chosen (s : Strip) (out : List ℕ) : Type 0 where
   pub choice : List Position
   pub overlap-free : free 0 (marksOf s) choice ≡ true
   pub greatest : sumOf (marksOf s) choice ≡ bestSum 0 (marksOf s)
-  pub left-out : ListsLeftOut choice out
+  pub left-out : out ≡ leftOut (s .weights) choice
 
 -- the text of a job
 pub record TextOf (job : List ℕ) (text : List ℕ) : Type 0 where

@@ -16,7 +16,7 @@ start c = let measured = c .before in let lists = measured .before .before .befo
 abbrev passed : tie.After-label-marks-arg2 → tie.Else1
 passed c = c .before .before
 
-abbrev labelled : tie.After-list-left-out-arg2 → tie.After-label-marks
+abbrev labelled : tie.After-list-arg2 → tie.After-label-marks
 labelled c = let lent = c .before .before .before in lent .before .before .before
 
 abbrev marks : tie.Start → Strip
@@ -54,13 +54,15 @@ label-marks-requires c κs =
     let a = start (point .before) in
     (accepted-checked (marks a) (entry a) (passes point), lists-enough (marks a) (entry a) (passes point) .0)
 
-list-left-out-requires : tie.Need-list-left-out-requires
-list-left-out-requires c κs =
+list-requires : tie.Need-list-requires
+list-requires c κs =
     let point = passed (labelled c .before) in
     let a = start (point .before) in
     let same = labelled c .label-marks .kept .1 .1 .1 .0 in
     let enough = lists-enough (marks a) (entry a) (passes point) in
-    (accepted-checked (marks a) (entry a) (passes point) .few, (omega arith, enough .1))
+    let checked = accepted-checked (marks a) (entry a) (passes point) in
+    let one-each = checked .same-weights in
+    (checked .weights-good, (omega (arith, checked .few, one-each), (omega (arith, enough .0, one-each, same), omega (arith, enough .1, one-each))))
 
 same-length : tie.Need-same-length
 same-length c = search needs
@@ -75,7 +77,7 @@ returns-2 : tie.Need-returns-2
 returns-2 c =
     let listing = c .before .before in
     let labels = labelled (listing .before) .label-marks in
-    let out = listing .list-left-out in
+    let out = listing .list in
     let point = passed (labelled (listing .before) .before) in
     let a = start (point .before) in
     let exit = bestLent (labels .last .1 .1 .1 .0) (out .last .1 .1 .0) (labels .last .1 .1 .1 .1 .0) in
@@ -89,7 +91,7 @@ best-spec =
     check-pass-requires
     returns
     label-marks-requires
-    list-left-out-requires
+    list-requires
     same-length
     same-length-2
     same-length-3
