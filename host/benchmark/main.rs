@@ -1,4 +1,4 @@
-// Times each exported call against the same algorithm in plain Rust, and built with `--cfg before` against the same call of an earlier
+// Times each exported call against the same algorithm in plain Rust, and built with `--cfg compared` against the same call of an earlier
 // archive too, on the same strips in the same run, and prints the ratios and how the full pass grows from 2,000 to 4,000 marks.
 #[path = "../shared/calls.rs"]
 mod calls;
@@ -69,8 +69,9 @@ fn jobs(strips: &[Strip]) -> Vec<Vec<u8>> {
 
 // The calls of one archive, as they are timed.
 macro_rules! runs {
-    ($calls:ident) => {
-        use crate::{lists::Lists, strips::Strip, $calls as calls};
+    ($calls:path) => {
+        use crate::{lists::Lists, strips::Strip};
+        use $calls as calls;
 
         pub fn full(s: &Strip, _: &[u8], l: &mut Lists) {
             l.number = calls::full(&s.places, &s.lengths, &s.weights, &mut l.bytes, &mut l.work_i16);
@@ -96,12 +97,12 @@ macro_rules! runs {
 }
 
 mod exported {
-    runs!(calls);
+    runs!(crate::calls);
 }
 
-#[cfg(before)]
+#[cfg(compared)]
 mod earlier {
-    runs!(before);
+    runs!(::before);
 }
 
 fn plain_full(s: &Strip, _: &[u8], l: &mut Lists) {
@@ -131,9 +132,9 @@ macro_rules! sides {
         Sides {
             exported: exported::$call,
             plain: $plain,
-            #[cfg(before)]
+            #[cfg(compared)]
             before: Some(earlier::$call),
-            #[cfg(not(before))]
+            #[cfg(not(compared))]
             before: None,
         }
     };
