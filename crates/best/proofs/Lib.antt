@@ -10,6 +10,7 @@ pub mod RenewedInParts
 pub mod CellsAreSmall
 pub mod RowGivesCells
 pub mod WalkIsBest
+pub mod AllOf
 pub mod ByWeight
 pub mod ListedFew
 pub mod LeftOutOnce

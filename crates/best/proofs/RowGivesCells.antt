@@ -7,16 +7,12 @@ use mathlib.Core.Path.{_≡_, sym, _∙_, ap}
 use mathlib.Core.List.{List}
 use Prim.Native.Nat.{ℕ, suc, _+_, _<_, max}
 use native.Mathlib.Omega.{arith}
-use lib.Dec.{leb}
 use lib.ListN.{getD, set}
 use lib.Seq.{getD-set-other, drop-set-lt}
-use borrow.Author.Tests.{leb-true}
 use Rattle.geometry.specs.Lists.{greatestOf}
-use Rattle.geometry.specs.Mark.{weightInRange, mostWeight}
 use Rattle.geometry.specs.Strip.{Strip}
 use Rattle.geometry.specs.Position.{above, below, Direction, leftward, rightward, unlabelled, at}
-use Rattle.geometry.proofs.Split.{and-snd}
-use Rattle.geometry.proofs.Accepted.{every-at}
+use Rattle.geometry.proofs.Accepted.{weight-at}
 use Rattle.best.specs.Best.{workNamed}
 use Rattle.best.specs.declared.row.Row.{Row}
 use Rattle.best.specs.inner.Names.{namesBefore, nameOf, reachAt}
@@ -58,9 +54,7 @@ module _ (s : Strip) (reaches work : List ℕ) (k x y : ℕ) (row : Row) (shared
     pub cell-asked : CellAsked row reaches work k x y
     cell-asked =
         let h = renewing .ready .checked in
-        let w = getD (s .weights) k 0 in
-        let good = every-at weightInRange (s .weights) 0 k (h .weights-good) (omega arith) in
-        let light = leb-true w mostWeight (and-snd (leb 1 w) (leb w mostWeight) good) in
+        let light = weight-at (s .weights) k (h .weights-good) (omega arith) .1 in
         let small = tried .gain .small in
         record {
           few = omega arith;

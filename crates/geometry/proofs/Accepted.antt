@@ -13,7 +13,7 @@ use lib.ListN.{length, getD, drop}
 use borrow.Author.Tests.{le-leb, leb-true, eq-eqb, eqb-true, ltb-true}
 use Rattle.geometry.specs.Dot.{dot}
 use Rattle.geometry.specs.Lists.{every}
-use Rattle.geometry.specs.Mark.{placeInRange, lengthInRange, weightInRange, rising, mostLength}
+use Rattle.geometry.specs.Mark.{placeInRange, lengthInRange, weightInRange, rising, mostLength, mostWeight}
 use Rattle.geometry.specs.Strip.{Strip, strip, marksOfLists, marksOf}
 use Rattle.geometry.specs.Refusal.{Refusal, Verdict, accepted, afterCheck, firstFailure, listsUnequal, tooManyMarks, badMark}
 use Rattle.geometry.specs.Entry.{sameLengths, goodPlaces, goodLabels, goodMarks, entryChecks, entry}
@@ -137,6 +137,13 @@ unfolding every
 every-at p [] d i e h = absurd (omega arith)
 every-at p (x ∷ xs) d zero e h = and-fst (p x) (every p xs) e
 every-at p (x ∷ xs) d (suc i) e h = every-at p xs d i (and-snd (p x) (every p xs) e) (omega arith)
+
+-- so every weight is one of 1 to 1,000
+pub weight-at : (ws : List ℕ) (i : ℕ) → every weightInRange ws ≡ true → i < length ws → (1 ≤ getD ws i 0) × (getD ws i 0 ≤ mostWeight)
+weight-at ws i e h =
+    let w = getD ws i 0 in
+    let ranged = every-at weightInRange ws 0 i e h in
+    (leb-true 1 w (and-fst (leb 1 w) (leb w mostWeight) ranged), leb-true w mostWeight (and-snd (leb 1 w) (leb w mostWeight) ranged))
 
 -- three lists of one length make as many marks
 length-listed : (zs : List ℤ) (ls ws : List ℕ) → length zs ≡ length ls → length zs ≡ length ws → length (marksOfLists zs ls ws) ≡ length zs
