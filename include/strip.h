@@ -24,7 +24,7 @@
  *   - full: n to fill its table, n to walk, and 20,000 to clear the work area;
  *   - slide: 482n to fill its table, n to walk, and 30,000 to clear the work area;
  *   - best: 2n(n + 1)(2n + 1)/3 cells with five offers each (295,240 cells at 60 marks), 2n(n + 1) offers that the cells of a row
- *     share, 2n + 2 to prepare, 4n to walk, n to list the left-out marks, and 30,000 to clear the work area twice;
+ *     share, 2n + 2 to prepare, 4n to walk, n(n + 1)/2 to list the left-out marks, and 30,000 to clear the work area twice;
  *   - reader and writer: 2n records, since each is looked at twice.
  */
 #ifndef STRIP_H
@@ -37,8 +37,11 @@
 extern "C" {
 #endif
 
-/* Grows by one with each change of a signature or of an answer. */
-#define STRIP_VERSION 1
+/*
+ * Grows by one with each change of a signature or of an answer.
+ *   2: strip_best lists left-out marks by falling weight, equal weights by rising number; in version 1 their order was open.
+ */
+#define STRIP_VERSION 2
 
 /* What a call returns. */
 #define STRIP_ACCEPTED 0
@@ -119,9 +122,9 @@ uint8_t strip_slide(const int16_t *places, size_t places_len, const uint8_t *len
  * The best pass: labels at the four positions for marks that may go without one, with the greatest sum of weights.
  *
  * 0: positions holds in its first places_len elements a position for each mark, 0 for none, no two labels overlapping; *sum is the
- * sum of the weights of the labelled marks, and no such list has a greater one. The first *count elements of left_out are the
- * numbers of the marks at 0, each once. Which list among those of equal sums, and the order of the numbers, are open. The first
- * STRIP_WORK_BEST elements of work are 0 and the rest of it is unchanged.
+ * sum of the weights of the labelled marks, and no such list has a greater one; which of those with that sum is open. The first
+ * *count elements of left_out are the numbers of the marks at 0, each once: by falling weight, and equal weights by rising number.
+ * The first STRIP_WORK_BEST elements of work are 0 and the rest of it is unchanged.
  * 6 to 10: *sum and *count are 0, nothing else is changed. 9 compares both answer lists with the count of marks.
  */
 uint8_t strip_best(const int16_t *places, size_t places_len, const uint8_t *lengths, size_t lengths_len,

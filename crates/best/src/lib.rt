@@ -64,12 +64,13 @@ fn label_marks(
 }
 
 // A choice with the greatest sum of an overlap-free choice. `positions` gets a position for each mark, 0 for none; `left_out` the
-// numbers of the marks at 0. The named part of `work` ends as zeros. A refusal changes nothing.
+// numbers of the marks at 0, heaviest first. The named part of `work` ends as zeros. A refusal changes nothing.
 //
 // Steps for n marks: the cells renewed for mark k, counted from 0, are (2k + 2)², in all 2n(n + 1)(2n + 1) / 3, with five offers
 // each; for each of their n(n + 1) rows the two offers that its cells share are made once; besides these there are 4n for the checks,
-// the work area is cleared twice, 2n + 2 reaches are set, and the walk and the listing try at most 5n times. At 60 marks that is
-// 5 · 295,240 + 2 · 3,660 + 240 + 2 · 15,000 + 122 + 300 = 1,514,182.
+// the work area is cleared twice, 2n + 2 reaches are set, the walk tries at most 4n times, and the listing takes n(n + 1) / 2, as a
+// mark may go before all that are listed. At 60 marks that is
+// 5 · 295,240 + 2 · 3,660 + 240 + 2 · 15,000 + 122 + 240 + 1,830 = 1,515,952.
 pub fn best(
     places: &[i16],
     lengths: &[u8],

@@ -39,8 +39,8 @@ pub extern "C" fn strip_slide(
     slide::slide(places, lengths, weights, sides, edges, work)
 }
 
-// A position for every mark in `positions`, 0 for none, and the marks at 0 in `left_out`; 6 to 10 if a check is not passed. `sum` and
-// `count` are set at every return, to 0 at a refusal.
+// A position for every mark in `positions`, 0 for none, and the marks at 0 in `left_out`, heaviest first; 6 to 10 if a check is not
+// passed. `sum` and `count` are set at every return, to 0 at a refusal.
 #[no_mangle]
 pub extern "C" fn strip_best(
     places: &[i16],
