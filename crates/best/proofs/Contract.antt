@@ -8,7 +8,6 @@ use Prim.Native.Nat.{ℕ, _≤_, min}
 use native.Mathlib.Omega.{arith}
 use lib.ListN.{length, take, drop, length-map}
 use lib.Seq.{take-at}
-use Rattle.geometry.specs.Mark.{mostWeight}
 use Rattle.geometry.specs.Strip.{Strip, marksOf, mostShort}
 use Rattle.geometry.specs.Pass.{passVerdict, written}
 use Rattle.geometry.specs.Position.{code}
@@ -16,7 +15,7 @@ use Rattle.geometry.specs.Refusal.{accepted, numberOf}
 use Rattle.geometry.proofs.Accepted.{Accepted, pass-accepted, accepted-rising, length-marks}
 use Rattle.geometry.proofs.Verdicts.{zero-accepted}
 use Rattle.best.specs.Best.{workNamed, BestLent, bestChecks, BestContract}
-use Rattle.best.specs.LeftOut.{byWeight, leftOut}
+use Rattle.best.specs.LeftOut.{byFallingWeight, leftOut}
 use Rattle.best.specs.inner.Worth.{wholeChoice}
 use Rattle.best.specs.inner.Checked.{Checked, Labelled}
 use Rattle.best.specs.inner.Insertion.{zerosByWeight}
@@ -85,7 +84,7 @@ module _ (s : Strip) (entry : BestLent) (ok : bestChecks s entry ≡ accepted) w
       ap (take (length (s .weights))) (labelled .positions-written)
       ∙ take-at codes (drop (length codes) (entry .positions)) (length (s .weights)) codes-length in
       let out : zerosByWeight (s .weights) (take (length (s .weights)) (exit .positions)) ≡ leftOut (s .weights) (wholeChoice 0 s) =
-      ap (zerosByWeight (s .weights)) used ∙ ap (byWeight (s .weights) mostWeight) (zeros-are-left-out 1 (wholeChoice 0 s)) in
+      ap (zerosByWeight (s .weights)) used ∙ ap (byFallingWeight (s .weights)) (zeros-are-left-out 1 (wholeChoice 0 s)) in
       record {
         number-is = sym (ap numberOf ok);
         where-refused = λ no. absurd (no ok);

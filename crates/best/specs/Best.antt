@@ -26,7 +26,7 @@ pub record BestLent : Type 0 where
   pub work : List ℕ
 
 abbrev pub bestLent : List ℕ → List ℕ → List ℕ → BestLent
-bestLent positions leftOut work = record { positions = positions; left-out = leftOut; work = work }
+bestLent positions out work = record { positions = positions; left-out = out; work = work }
 
 -- checks 6 to 10: 9 is about the shorter of the two answer lists
 abbrev pub bestChecks : Strip → BestLent → Verdict
