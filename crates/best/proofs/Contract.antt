@@ -20,7 +20,7 @@ use Rattle.best.specs.inner.Worth.{wholeChoice}
 use Rattle.best.specs.inner.Checked.{Checked, Labelled}
 use Rattle.best.specs.inner.Insertion.{zerosByWeight}
 use Rattle.best.proofs.WorthIsBest.{best-free, best-earns, best-length, worth-best}
-use Rattle.best.proofs.ZerosListed.{zeros-are-left-out}
+use Rattle.best.proofs.Zeros.{zeros-are-left-out}
 
 module _ (s : Strip) (entry : BestLent) (n : ℕ) where
   -- the number, where the shorter answer list has been found

@@ -18,5 +18,6 @@ pub mod HeaviestFirst
 pub mod OneList
 pub mod LeftOutExample
 pub mod Insertion
+pub mod Zeros
 pub mod ZerosListed
 pub mod Contract
