@@ -6,14 +6,14 @@ use mathlib.Core.Path.{_≡_, refl, sym, _∙_, ap}
 use mathlib.Core.List.{List, map}
 use Prim.Native.Nat.{ℕ, _≤_, min}
 use native.Mathlib.Omega.{arith}
-use lib.ListN.{length, take, drop, length-map}
-use lib.Seq.{take-at}
+use lib.ListN.{length, take, length-map}
 use Rattle.geometry.specs.Strip.{Strip, marksOf, mostShort}
 use Rattle.geometry.specs.Pass.{passVerdict, written}
 use Rattle.geometry.specs.Position.{code}
 use Rattle.geometry.specs.Refusal.{accepted, numberOf}
 use Rattle.geometry.proofs.Accepted.{Accepted, pass-accepted, accepted-rising, length-marks}
 use Rattle.geometry.proofs.Verdicts.{zero-accepted}
+use Rattle.geometry.proofs.Lent.{used-is}
 use Rattle.best.specs.Best.{workNamed, BestLent, bestChecks, BestContract}
 use Rattle.best.specs.LeftOut.{byFallingWeight, leftOut}
 use Rattle.best.specs.inner.Worth.{wholeChoice}
@@ -80,9 +80,7 @@ module _ (s : Strip) (entry : BestLent) (ok : bestChecks s entry ≡ accepted) w
       → BestContract s entry exit (record { number = 0; sum = sum; count = count })
   answer-accepted exit sum count labelled listed counted =
       let rising = accepted-rising mostShort s (passed .0) in
-      let used : take (length (s .weights)) (exit .positions) ≡ codes =
-      ap (take (length (s .weights))) (labelled .positions-written)
-      ∙ take-at codes (drop (length codes) (entry .positions)) (length (s .weights)) codes-length in
+      let used = used-is codes (entry .positions) (labelled .positions-written) (sym codes-length) in
       let out : zerosByWeight (s .weights) (take (length (s .weights)) (exit .positions)) ≡ leftOut (s .weights) (wholeChoice 0 s) =
       ap (zerosByWeight (s .weights)) used ∙ ap (byFallingWeight (s .weights)) (zeros-are-left-out 1 (wholeChoice 0 s)) in
       record {

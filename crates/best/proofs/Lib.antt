@@ -10,7 +10,6 @@ pub mod RenewedInParts
 pub mod CellsAreSmall
 pub mod RowGivesCells
 pub mod WalkIsBest
-pub mod AllOf
 pub mod ByWeight
 pub mod ListedFew
 pub mod LeftOutOnce

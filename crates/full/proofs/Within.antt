@@ -13,7 +13,7 @@ use Rattle.geometry.specs.Dot.{emptyReach}
 use Rattle.geometry.specs.Mark.{Mark}
 use Rattle.geometry.specs.Position.{Direction, leftward, rightward}
 use Rattle.geometry.specs.Overlap.{leftEnd, rightEnd}
-use Rattle.geometry.proofs.Split.{by-leb}
+use Rattle.geometry.proofs.Split.{leb-max}
 use Rattle.full.specs.inner.Rest.{can}
 use Rattle.full.specs.inner.Row.{noReach, anyReach, candidates, greatest}
 
@@ -35,12 +35,6 @@ can-mirror g a b (m ∷ ms) =
     (swap-sides (leb a (leftEnd m leftward) && can g b l ms) (leb b (leftEnd m leftward) && can g l a ms)
     (leb a (leftEnd m rightward) && can g b r ms) (leb b (leftEnd m rightward) && can g r a ms))
 
--- within the greater of two bounds: within one of them
-within-max : (o x y : ℕ) → leb o (max x y) ≡ (leb o x || leb o y)
-within-max o x y =
-    by-leb o x (λ t. leb o (max x y) ≡ (t || leb o y)) (λ h. le-leb o (max x y) (omega arith))
-    (λ h. by-leb o y (λ t. leb o (max x y) ≡ t) (λ k. le-leb o (max x y) (omega arith)) (λ k. lt-leb o (max x y) (omega arith)))
-
 -- within a bound that stands only if a test is passed
 within-allowed : (o x : ℕ) (t : Bool) → emptyReach ≤ o → leb o (cond t x noReach) ≡ (t && leb o x)
 within-allowed o x true h = refl
@@ -60,9 +54,9 @@ pub within-candidates : (o t left right kl kr : ℕ) → emptyReach ≤ o
     ≡ ((leb t left && leb o kl) || ((leb o left && leb t kl) || ((leb t right && leb o kr) || (leb o right && leb t kr))))
 within-candidates o t left right kl kr h =
     rw (
-      within-max o (max (cond (leb t left) kl noReach) (cond (leb t right) kr noReach)) _,
-      within-max o (cond (leb t left) kl noReach) _,
-      within-max o (cond (leb t kl) left noReach) _,
+      leb-max o (max (cond (leb t left) kl noReach) (cond (leb t right) kr noReach)) _,
+      leb-max o (cond (leb t left) kl noReach) _,
+      leb-max o (cond (leb t kl) left noReach) _,
       within-allowed o kl (leb t left) h,
       within-allowed o kr (leb t right) h,
       within-allowed o left (leb t kl) h,

@@ -2,7 +2,7 @@
 -- A dot is the coordinate's distance from −32,768, a natural number for every coordinate that 16 bits hold. So both grow and fall alike
 -- and have the same order, and where a sum or a difference stays within 16 bits nothing is lost.
 use mathlib.Core.Path.{_≡_, refl, sym, _∙_, ap, ap₂}
-use mathlib.Core.Bool.{Bool, true, false, not}
+use mathlib.Core.Bool.{Bool, true, not}
 use Prim.Native.Nat.{ℕ, zero, suc, _+_, _-_, _≤_, _<_}
 use native.Mathlib.Omega.{arith}
 use lib.Dec.{leb, ltb}
@@ -15,7 +15,7 @@ use borrow.Author.Tests.{leb-true, le-leb, lt-leb}
 use Rattle.geometry.specs.Dot.{dot}
 use Rattle.geometry.specs.Mark.{placeInRange}
 use Rattle.geometry.specs.inner.Place.{leastDot, mostDot}
-use Rattle.geometry.proofs.Split.{by-ltb, by-leb, and-fst}
+use Rattle.geometry.proofs.Split.{by-ltb, and-fst, same-test}
 
 -- a number that went through 16 bits is itself
 pub back : {z : ℤ} → SFits w16 z → toZ w16 (ofZ w16 z) ≡ z
@@ -28,12 +28,6 @@ held h = record { sfits = h }
 -- so it comes back from them
 pub fetched : (z : ℤ) → mag z < 32768 → toZ w16 (ofZ w16 z) ≡ z
 fetched z h = toZ-ofZ w16 z (held h)
-
--- two tests are equal if each holds where the other does
-same-test : (a b c d : ℕ) → (a ≤ b → c ≤ d) → (c ≤ d → a ≤ b) → leb a b ≡ leb c d
-same-test a b c d f g =
-    by-leb a b (λ t. t ≡ leb c d) (λ h. sym (le-leb c d (f h)))
-    (λ h. sym (by-leb c d (λ t. t ≡ false) (λ k. let k′ : a ≤ b = g k in absurd (omega arith)) (λ _. refl)))
 
 -- at least −32,768: what its dot needs to be its distance from there
 abbrev pub NotLow : ℤ → Type 0

@@ -1,13 +1,13 @@
 -- Case splits on the tests that definitions compute with. A goal about a test holds if it holds at each of its two answers, and each
 -- answer says what was tested: so a proof about a definition goes on with plain facts about numbers.
-use mathlib.Core.Path.{_≡_, refl}
+use mathlib.Core.Path.{_≡_, refl, sym}
 use mathlib.Core.Bool.{Bool, true, false, _&&_, _||_}
 use mathlib.Core.Logic.{_⊎_, inl, inr}
-use Prim.Native.Nat.{ℕ, _≤_, _<_}
+use Prim.Native.Nat.{ℕ, _≤_, _<_, max}
 use native.Mathlib.Omega.{arith}
 use native.Mathlib.Decide.{decLe}
 use lib.Dec.{leb, ltb, eqb}
-use borrow.Author.Tests.{leb-true, leb-false, ltb-true, ltb-false, eqb-true, eqb-false}
+use borrow.Author.Tests.{le-leb, leb-true, leb-false, ltb-true, ltb-false, eqb-true, eqb-false}
 
 -- a goal about a test, from the goal at each of its two answers
 pub by-bool {ℓ} : (t : Bool) (P : Bool → Type ℓ) → (t ≡ true → P true) → (t ≡ false → P false) → P t
@@ -22,6 +22,19 @@ by-ltb a b P f g = by-bool (ltb a b) P (λ e. f (ltb-true a b e)) (λ e. g (ltb-
 
 pub by-eqb {ℓ} : (a b : ℕ) (P : Bool → Type ℓ) → (a ≡ b → P true) → ((a ≡ b → ⊥) → P false) → P (eqb a b)
 by-eqb a b P f g = by-bool (eqb a b) P (λ e. f (eqb-true a b e)) (λ e. g (eqb-false a b e))
+
+-- two tests are equal if each holds where the other does; a test of less is one of at most, of the number after
+pub same-test : (a b c d : ℕ) → (a ≤ b → c ≤ d) → (c ≤ d → a ≤ b) → leb a b ≡ leb c d
+same-test a b c d f g =
+    by-leb a b (λ t. t ≡ leb c d) (λ h. sym (le-leb c d (f h)))
+    (λ h. sym (by-leb c d (λ t. t ≡ false) (λ k. let k′ : a ≤ b = g k in absurd (omega arith)) (λ _. refl)))
+
+-- at most the greater of two bounds: at most one of them
+pub leb-max : (o x y : ℕ) → leb o (max x y) ≡ (leb o x || leb o y)
+leb-max o x y =
+    by-leb o x (λ t. leb o (max x y) ≡ (t || leb o y))
+    (λ h. le-leb o (max x y) (omega arith))
+    (λ h. same-test o (max x y) o y (omega arith) (omega arith))
 
 -- of two numbers the one is less, or the other is not more
 pub lt-or-ge : (a b : ℕ) → (a < b) ⊎ (b ≤ a)

@@ -5,9 +5,9 @@ use mathlib.Core.Bool.{Bool, true, false, cond}
 use mathlib.Core.List.{List, [], _∷_, _++_, map}
 use mathlib.Core.Logic.{_⊎_, inl, inr, ⊎-elim}
 use mathlib.Core.Option.{none, some}
-use Prim.Native.Nat.{ℕ, zero, suc, _≤_, max}
+use Prim.Native.Nat.{ℕ, zero, suc, _≤_, _<_, max}
 use native.Mathlib.Omega.{arith}
-use lib.ListN.{length}
+use lib.ListN.{length, getD}
 use Rattle.geometry.specs.Lists.{firstOf, greatestOf, prefixed, wordsOf}
 use Rattle.geometry.proofs.Split.{by-bool, clash, lt-or-ge}
 
@@ -21,12 +21,18 @@ abbrev pub Spelled : {A : Type 0} → List A → List A → Type 0
 Spelled letters [] = Unit {0}
 Spelled letters (a ∷ w) = Member a letters × Spelled letters w
 
+-- the element at an index is one of the list
+pub member-at : {A : Type 0} (d : A) (xs : List A) (i : ℕ) → i < length xs → Member (getD xs i d) xs
+member-at d [] i h = absurd (omega arith)
+member-at d (x ∷ xs) zero h = inl refl
+member-at d (x ∷ xs) (suc i) h = inr (member-at d xs i (omega arith))
+
 -- an element of two lists together is one of the first or of the second
 member-left : {A : Type 0} (x : A) (xs ys : List A) → Member x xs → Member x (xs ++ ys)
 member-left x (y ∷ xs) ys (inl e) = inl e
 member-left x (y ∷ xs) ys (inr m) = inr (member-left x xs ys m)
 
-member-right : {A : Type 0} (x : A) (xs ys : List A) → Member x ys → Member x (xs ++ ys)
+pub member-right : {A : Type 0} (x : A) (xs ys : List A) → Member x ys → Member x (xs ++ ys)
 member-right x [] ys m = m
 member-right x (y ∷ xs) ys m = inr (member-right x xs ys m)
 

@@ -1,18 +1,17 @@
 -- What the contracts of the two calls leave a caller with. A read with number 0 has a strip: the job says it, the writer takes it, and the
 -- used part of each list at exit is its list. A write with number 0 has a job. A call with another number has left the lent lists as they
 -- were, with count or length 0. The number is 0 exactly where the definitions give a value, so it decides which of the two holds.
-use mathlib.Core.Path.{_≡_, sym, _∙_, ap}
+use mathlib.Core.Path.{_≡_, _∙_}
 use mathlib.Core.List.{List}
 use Prim.Native.Nat.{ℕ, _≤_}
 use native.Mathlib.Omega.{arith}
-use lib.ListN.{length, take, drop, length-append}
-use lib.Seq.{take-at}
+use lib.ListN.{length, take}
 use Rattle.geometry.specs.Strip.{Strip, strip, firstMarks, mostMarks}
 use Rattle.geometry.specs.Refusal.{Refusal, accepted, refusalNumber}
 use Rattle.geometry.specs.Entry.{entry}
 use Rattle.geometry.specs.Pass.{written}
 use Rattle.geometry.proofs.Accepted.{entry-accepted}
-use Rattle.geometry.proofs.Lent.{same-three}
+use Rattle.geometry.proofs.Lent.{same-three, used-is, used-within}
 use Rattle.job.specs.Number.{Bytes}
 use Rattle.job.specs.Outcome.{given, refusal}
 use Rattle.job.specs.Encode.{jobFor}
@@ -21,14 +20,6 @@ use Rattle.job.specs.declared.answer.Read.{Read}
 use Rattle.job.specs.declared.answer.Written.{Written}
 use Rattle.job.proofs.Outcomes.{number-given, number-refused}
 use Rattle.job.proofs.RoundTrips.{read-accepted}
-
--- the used part of a list, and that the list is long enough for it
-module _ {A : Type 0} (xs old new : List A) (n : ℕ) (count : n ≡ length xs) (is : new ≡ written xs old) where
-  used-is : take n new ≡ xs
-  used-is = ap (take n) is ∙ take-at xs (drop (length xs) old) n (sym count)
-
-  used-within : n ≤ length new
-  used-within = omega (arith, ap length is, length-append xs (drop (length xs) old))
 
 -- a read that is accepted: the strip that was read, and the three lists at exit
 pub record ReadStrip (job : List ℕ) (entryLists exit : Strip) (r : Read) : Type 0 where
@@ -56,9 +47,9 @@ read-strip job entryLists exit r bytes call zero =
     let weights : exit .weights ≡ written (s .weights) (entryLists .weights) = rw (g .is) at (call .weights-are) in
     let in-lengths = count ∙ a .same-lengths in
     let in-weights = count ∙ a .same-weights in
-    let fits-places = used-within (s .places) (entryLists .places) (exit .places) (r .count) count places in
-    let fits-lengths = used-within (s .lengths) (entryLists .lengths) (exit .lengths) (r .count) in-lengths lengths in
-    let fits-weights = used-within (s .weights) (entryLists .weights) (exit .weights) (r .count) in-weights weights in
+    let fits-places = used-within (s .places) (entryLists .places) places count in
+    let fits-lengths = used-within (s .lengths) (entryLists .lengths) lengths in-lengths in
+    let fits-weights = used-within (s .weights) (entryLists .weights) weights in-weights in
     record {
       found = s;
       says = g .is;
@@ -68,9 +59,9 @@ read-strip job entryLists exit r bytes call zero =
       lengths-are = lengths;
       weights-are = weights;
       used = same-three strip
-          (used-is (s .places) (entryLists .places) (exit .places) (r .count) count places)
-          (used-is (s .lengths) (entryLists .lengths) (exit .lengths) (r .count) in-lengths lengths)
-          (used-is (s .weights) (entryLists .weights) (exit .weights) (r .count) in-weights weights);
+          (used-is (s .places) (entryLists .places) places count)
+          (used-is (s .lengths) (entryLists .lengths) lengths in-lengths)
+          (used-is (s .weights) (entryLists .weights) weights in-weights);
       within = omega arith;
     }
 
@@ -118,6 +109,6 @@ written-job s entryJob exit r call zero =
       made = g .is;
       length-is = count;
       job-is = is;
-      used = used-is (g .value) entryJob exit (r .length) count is;
-      within = used-within (g .value) entryJob exit (r .length) count is;
+      used = used-is (g .value) entryJob is count;
+      within = used-within (g .value) entryJob is count;
     }

@@ -1,11 +1,12 @@
 -- Pieces of text one behind the other: what was appended piece by piece was appended as a whole.
-use mathlib.Core.Path.{_≡_, refl, sym, _∙_, ap, subst}
+use mathlib.Core.Path.{_≡_, refl, sym, _∙_, ap}
 use mathlib.Core.List.{List, [], _∷_, _++_, append-nil, append-assoc}
-use Prim.Native.Nat.{ℕ, _+_, _-_, _≤_, _<_}
+use Prim.Native.Nat.{ℕ, _+_, _<_}
 use native.Mathlib.Omega.{arith}
 use native.Mathlib.Numerals.{add-one}
 use lib.ListN.{length, getD, take, drop, set, length-append, take-append-drop}
-use lib.Seq.{take-suc-set, take-suc, drop-set-lt, drop-drop}
+use lib.Seq.{take-suc-set, take-suc, drop-set-lt}
+use Rattle.geometry.proofs.Lent.{drop-further}
 use Rattle.listing.specs.inner.Append.{Appended}
 
 -- nothing, or one byte
@@ -24,12 +25,6 @@ appended-is {b} {c} {at} {n} p e =
       next-is = p .next-is ∙ ap (λ (xs : List ℕ). at + length xs) e;
       beyond = p .beyond;
     }
-
--- what agrees beyond a place agrees beyond any later one
-drop-further : (n k : ℕ) (xs ys : List ℕ) → n ≤ k → drop n xs ≡ drop n ys → drop k xs ≡ drop k ys
-drop-further n k xs ys h e =
-    let d : n + (k - n) ≡ k = omega arith in
-    subst (λ (m : ℕ). drop m xs ≡ drop m ys) d (sym (drop-drop (k - n) n xs) ∙ ap (drop (k - n)) e ∙ drop-drop (k - n) n ys)
 
 -- a piece and one behind it are one piece
 pub appended-join : {b c d : List ℕ} {at n k : ℕ} {s t : List ℕ} → Appended b at s c n → Appended c n t d k → Appended b at (s ++ t) d k

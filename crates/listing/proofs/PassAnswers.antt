@@ -8,8 +8,7 @@ use mathlib.Core.Option.{Option, none, some}
 use Prim.Native.Nat.{ℕ, _≤_}
 use native.Mathlib.Omega.{arith}
 use lib.Dec.{eqb}
-use lib.ListN.{length, take, drop, length-map, length-append}
-use lib.Seq.{take-at}
+use lib.ListN.{length, take, length-map}
 use borrow.Author.Tests.{eq-eqb, ne-eqb}
 use Rattle.geometry.specs.Strip.{Strip, marksOf, mostMarks}
 use Rattle.geometry.specs.Position.{Position, code}
@@ -20,6 +19,7 @@ use Rattle.geometry.specs.Pass.{written}
 use Rattle.geometry.proofs.Accepted.{Accepted, length-marks}
 use Rattle.geometry.proofs.Best.{free-length}
 use Rattle.geometry.proofs.Whole.{found-placing}
+use Rattle.geometry.proofs.Lent.{used-is, used-within}
 use Rattle.full.specs.Full.{FullLent, fullChecks, fullVerdict, positionsAfter, FullContract}
 use Rattle.slide.specs.Slide.{SlideLent, slideChecks, slideVerdict, SlideContract}
 use Rattle.best.specs.LeftOut.{leftOut}
@@ -47,7 +47,7 @@ module _ (s : Strip) (lent left : FullLent) (number : ℕ) (call : FullContract 
       let long : length (map code ps) ≡ marks =
       length-map ps code ∙ free-length 0 (marksOf s) ps (found-placing 0 (marksOf s) ps e .is-free)
       ∙ length-marks s (good .same-lengths) (good .same-weights) in
-      ap (take marks) listed ∙ take-at (map code ps) (drop (length (map code ps)) (lent .positions)) marks long
+      used-is (map code ps) (lent .positions) listed (sym long)
 
   -- the end of the line: the numbers of the placing, or "none"
   by-answer : (o : Option (List Position)) → firstPlacing 0 (marksOf s) ≡ o → tailOf (eqb number 0) (take marks (left .positions)) ≡ fullTail o
@@ -81,11 +81,10 @@ module _ (s : Strip) (lent left : BestLent) (r : Best) (call : BestContract s le
   out = leftOut (s .weights) (answer .choice)
 
   used-out : take (r .count) (left .left-out) ≡ out
-  used-out = ap (take (r .count)) (answer .out-written) ∙ take-at out (drop (length out) (lent .left-out)) (r .count) (sym (answer .out-counted))
+  used-out = used-is out (lent .left-out) (answer .out-written) (answer .out-counted)
 
   count-within : r .count ≤ length (left .left-out)
-  count-within =
-      omega (arith, answer .out-counted, ap length (answer .out-written), length-append out (drop (length out) (lent .left-out)))
+  count-within = used-within out (lent .left-out) (answer .out-written) (answer .out-counted)
 
   -- what the best and the out line say
   pub best-found : BestFound s (r .sum) (r .count) (left .left-out)

@@ -10,7 +10,7 @@ use Prim.Native.Nat.{ℕ, _+_, _*_, _/_, _%_, _≤_}
 use native.Mathlib.Omega.{arith}
 use lib.Dec.{lit≤}
 use borrow.Author.Tests.{le-leb}
-use lib.ListN.{length, length-append, length-map}
+use lib.ListN.{length, take, length-append, length-map}
 use Rattle.geometry.specs.Strip.{Strip, marksOf, mostMarks, mostShort}
 use Rattle.geometry.specs.Position.{Position, code}
 use Rattle.geometry.specs.Lists.{sumList}
@@ -22,6 +22,7 @@ use Rattle.geometry.proofs.Split.{by-leb}
 use Rattle.geometry.proofs.Accepted.{Accepted, entry-accepted, length-marks}
 use Rattle.geometry.proofs.Best.{free-length}
 use Rattle.geometry.proofs.Whole.{found-placing}
+use Rattle.geometry.proofs.Lent.{used-is, used-within}
 use Rattle.best.proofs.ListedFew.{few-left-out}
 use Rattle.job.specs.Number.{Bytes}
 use Rattle.job.specs.Outcome.{Outcome, given, refusal}
@@ -161,3 +162,11 @@ never-too-small {job} {entry} call bytes room =
     let text = call .text in
     let fits = le-leb (length text) (length entry) (omega (arith, text-fits job text bytes (call .text-of))) in
     (rw fits at (call .number-is), rw fits at (call .length-is), rw fits at (call .output-is))
+
+-- and the used part of the output is the whole text
+pub text-used : {job entry exit : List ℕ} {r : Listed} (call : ListingContract job entry exit r) → Bytes job → textMost ≤ length entry
+    → (take (r .length) exit ≡ call .text) × (r .length ≤ length exit) × (1 ≤ r .length)
+text-used {job} {entry} call bytes room =
+    let done = never-too-small call bytes room in
+    let some = text-some job (call .text) bytes (call .text-of) in
+    (used-is (call .text) entry (done .2) (done .1), used-within (call .text) entry (done .2) (done .1), omega (arith, some, done .1))

@@ -5,15 +5,15 @@ use mathlib.Core.Path.{_≡_, sym, _∙_, ap₂}
 use mathlib.Core.Bool.{true, cond, _&&_, _||_}
 use mathlib.Core.Logic.{⊎-elim}
 use mathlib.Core.List.{List, [], _∷_}
-use Prim.Native.Nat.{ℕ, zero, suc, _+_, _-_, _≤_, _<_, max}
+use Prim.Native.Nat.{ℕ, zero, suc, _+_, _-_, _≤_, _<_}
 use native.Mathlib.Omega.{arith}
 use borrow.Author.Tests.{lt-ltb, le-ltb, ltb-true}
 use lib.Dec.{leb, ltb}
 use Rattle.geometry.specs.Mark.{Mark}
-use Rattle.geometry.proofs.Split.{by-leb, by-ltb, lt-or-ge}
+use Rattle.geometry.proofs.Split.{by-leb, lt-or-ge, same-test, leb-max}
 use Rattle.slide.specs.inner.Room.{noBound, slidBy, reachAt, reachPast, slideable, furthest, ownSide, otherSide, room}
 use Rattle.slide.proofs.Slideable.{exchanged, smaller-reach}
-use Rattle.slide.proofs.FurthestSlide.{same-tests, furthest-within, furthest-exact}
+use Rattle.slide.proofs.FurthestSlide.{furthest-within, furthest-exact}
 
 -- every label, with the gap, lies between the coordinates 0 and noBound wherever it slides, as that of every accepted mark does
 abbrev pub Inside : ℕ → List Mark → Type 0
@@ -27,13 +27,6 @@ cellsOf g m ms d = room g (reachAt g m d) ms
 -- the reach after a label, by how far it slid
 reach-past : (g : ℕ) (m : Mark) (t : ℕ) → m .labelLength < m .place → reachPast g m t ≡ reachAt g m (slidBy m t)
 reach-past g m t short = omega arith
-
--- a reach is below the larger of two bounds if it is below one of them
-ltb-max : (o x y : ℕ) → ltb o (max x y) ≡ (ltb o x || ltb o y)
-ltb-max o x y =
-    by-ltb o x (λ c. ltb o (max x y) ≡ (c || ltb o y))
-    (λ h. lt-ltb o (max x y) (omega arith))
-    (λ h. same-tests o (max x y) o y (omega arith) (omega arith))
 
 -- no bound lies beyond noBound
 other-within : (m : Mark) (k : ℕ) → m .labelLength < m .place → k ≤ suc (m .labelLength) → otherSide m k ≤ suc (m .place)
@@ -72,7 +65,7 @@ room-falls g t u ms exact inside h small = ⊎-elim rises (λ falls. falls) (lt-
 -- how far a label may slide on the other side, as a bound of that side's reach
 slide-bound : (m : Mark) (o k : ℕ) → ltb (slidBy m o) k ≡ ltb o (otherSide m k)
 slide-bound m o zero = le-ltb (slidBy m o) 0 (omega arith) ∙ sym (le-ltb o 0 (omega arith))
-slide-bound m o (suc k) = same-tests (slidBy m o) (suc k) o (m .place - m .labelLength + suc k) (omega arith) (omega arith)
+slide-bound m o (suc k) = same-test (suc (slidBy m o)) (suc k) (suc o) (m .place - m .labelLength + suc k) (omega arith) (omega arith)
 
 module _ (g t o : ℕ) (m : Mark) (ms : List Mark) (exact : Exact g ms) (inside : Inside g (m ∷ ms)) where
   -- the label on the side of t
@@ -112,7 +105,7 @@ unfolding room slideable
 room-exact g [] inside t o ht ho = lt-ltb o noBound ho
 room-exact g (m ∷ ms) inside t o ht ho =
     let exact : Exact g ms = room-exact g ms (inside .2) in
-    ltb-max o (ownSide m t (cellsOf g m ms)) (otherSide m (furthest (cellsOf g m ms) t (suc (m .labelLength))))
+    leb-max (suc o) (ownSide m t (cellsOf g m ms)) (otherSide m (furthest (cellsOf g m ms) t (suc (m .labelLength))))
     ∙ ap₂ _||_ (own-exact g t o m ms exact inside ho) (other-exact g t o m ms exact inside ht)
 
 -- the test of the walk: the label can lie on the side of t, and the rest goes with the reach o of the other side

@@ -1,7 +1,7 @@
 -- The scan for the furthest slide. Where the cells fall, a slide is within the bound exactly if it is below what the scan finds; and for a
 -- larger reach the scan finds no more, so it may go on where the one for the smaller reach stopped.
 use mathlib.Core.Path.{_≡_, refl, sym, _∙_}
-use mathlib.Core.Bool.{false, cond}
+use mathlib.Core.Bool.{cond}
 use mathlib.Core.Logic.{⊎-elim}
 use Prim.Native.Nat.{ℕ, zero, suc, _-_, _≤_, _<_}
 use native.Mathlib.Omega.{arith}
@@ -9,13 +9,6 @@ use borrow.Author.Tests.{lt-ltb, le-ltb}
 use lib.Dec.{ltb}
 use Rattle.geometry.proofs.Split.{by-ltb, lt-or-ge}
 use Rattle.slide.specs.inner.Room.{furthest}
-
--- two tests are equal if each holds where the other does
-pub same-tests : (a b c d : ℕ) → (a < b → c < d) → (c < d → a < b) → ltb a b ≡ ltb c d
-same-tests a b c d f h =
-    by-ltb a b (λ t. t ≡ ltb c d)
-    (λ l. sym (lt-ltb c d (f l)))
-    (λ l. sym (by-ltb c d (λ t. t ≡ false) (λ k. let less : a < b = h k in absurd (omega arith)) (λ _. refl)))
 
 -- the scan finds nothing beyond its start
 pub furthest-within : (f : ℕ → ℕ) (t n : ℕ) → furthest f t n ≤ n

@@ -2,13 +2,14 @@
 -- the later marks, from the row behind it, and the whole lies in the named part of the work area.
 use mathlib.Core.Path.{_≡_, refl, sym, _∙_, ap}
 use mathlib.Core.List.{List, [], _∷_}
-use Prim.Native.Nat.{ℕ, zero, suc, _+_, _-_, _*_, _≤_, _<_}
+use Prim.Native.Nat.{ℕ, zero, suc, _+_, _*_, _≤_, _<_}
 use native.Mathlib.Omega.{arith}
 use lib.IntN.{ℤ, pos}
 use lib.ListN.{length, getD, drop}
 use lib.Seq.{drop-drop, getD-drop}
 use Rattle.geometry.specs.Dot.{dot}
 use Rattle.geometry.specs.Mark.{Mark}
+use Rattle.geometry.proofs.Lent.{drop-further}
 use Rattle.slide.specs.Slide.{workNamed}
 use Rattle.slide.specs.inner.Plain.{plainMark, plainMarks, Checked}
 use Rattle.slide.specs.inner.Room.{noBound, reachAt, roomBefore, room}
@@ -50,12 +51,6 @@ row-right cells row m k ms d short table =
     ∙ room-same k (reachAt 0 m d) (rowFrom cells row) (λ e. room 0 (reachAt 0 k e) ms) short
     (λ e h. sym (getD-drop row cells e 0) ∙ table .0 e h)
 
--- what is unchanged from one index on is unchanged further on
-unchanged-further : (old new : List ℕ) (a b : ℕ) → a ≤ b → drop a new ≡ drop a old → drop b new ≡ drop b old
-unchanged-further old new a b h e =
-    let split : a + (b - a) ≡ b = omega arith in
-    rw (← split) (sym (drop-drop (b - a) a new) ∙ ap (drop (b - a)) e ∙ drop-drop (b - a) a old)
-
 module _ (places : List ℤ) (lengths : List ℕ) (checked : Checked places lengths) where
   -- the marks of the strip at weight 1
   abbrev marks : List Mark
@@ -72,7 +67,7 @@ module _ (places : List ℤ) (lengths : List ℕ) (checked : Checked places leng
     with-row filled table =
         record {
           table = rw (marks-from places lengths checked k within) table;
-          beyond = unchanged-further old new (k * rowCells + rowCells) workNamed (omega (arith, checked .few)) (filled .behind);
+          beyond = drop-further (k * rowCells + rowCells) workNamed new old (omega (arith, checked .few)) (filled .behind);
           same-length = filled .same-length;
         }
 

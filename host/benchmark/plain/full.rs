@@ -17,23 +17,22 @@ struct Next {
     after_right: i32,
 }
 
+// What stands for the first of two bounds, the lesser first, that `reach` is within.
+fn within(reach: i32, (near, at_near): (i32, i32), (far, at_far): (i32, i32)) -> i32 {
+    if reach <= near {
+        at_near
+    } else if reach <= far {
+        at_far
+    } else {
+        NONE
+    }
+}
+
 impl Next {
     // The greatest reach of one side, beside another that reaches to `reach`, with which the next mark and all later ones go.
     fn greatest(self, reach: i32) -> i32 {
-        let beside = if reach <= self.left {
-            self.after_left
-        } else if reach <= self.place {
-            self.after_right
-        } else {
-            NONE
-        };
-        let opposite = if reach <= self.after_right {
-            self.place
-        } else if reach <= self.after_left {
-            self.left
-        } else {
-            NONE
-        };
+        let beside = within(reach, (self.left, self.after_left), (self.place, self.after_right));
+        let opposite = within(reach, (self.after_right, self.place), (self.after_left, self.left));
         beside.max(opposite)
     }
 }
