@@ -64,6 +64,7 @@ static int16_t places[MARKS_MOST];
 static uint8_t lengths[MARKS_MOST];
 static uint16_t weights[MARKS_MOST];
 static size_t marks, lengths_len;
+static uint8_t gap;
 
 static uint8_t job[STRIP_JOB_MOST];
 static size_t job_len;
@@ -95,29 +96,33 @@ static __typeof__(strip_best) *volatile best;
 static __typeof__(strip_read) *volatile read_job;
 static __typeof__(strip_write) *volatile write_job;
 
+/* The empty function looks at no argument, so it may stand for every call. */
+#define EMPTY_FOR(call) ((__typeof__(call) *)empty)
+
 static void call_the_calls(int calls)
 {
-    full = calls ? strip_full : empty;
-    slide = calls ? strip_slide : empty;
-    best = calls ? strip_best : empty;
-    read_job = calls ? strip_read : empty;
-    write_job = calls ? strip_write : empty;
+    full = calls ? strip_full : EMPTY_FOR(strip_full);
+    slide = calls ? strip_slide : EMPTY_FOR(strip_slide);
+    best = calls ? strip_best : EMPTY_FOR(strip_best);
+    read_job = calls ? strip_read : EMPTY_FOR(strip_read);
+    write_job = calls ? strip_write : EMPTY_FOR(strip_write);
 }
 
 static void at_full(void)
 {
-    number = full(places, marks, lengths, lengths_len, weights, marks, bytes, answer_len, work_full, STRIP_WORK_FULL - missing);
+    number = full(places, marks, lengths, lengths_len, weights, marks, gap, bytes, answer_len, work_full,
+                  STRIP_WORK_FULL - missing);
 }
 
 static void at_slide(void)
 {
-    number = slide(places, marks, lengths, lengths_len, weights, marks, bytes, answer_len, edges, answer_len, work_slide,
+    number = slide(places, marks, lengths, lengths_len, weights, marks, gap, bytes, answer_len, edges, answer_len, work_slide,
                    STRIP_WORK_SLIDE - missing);
 }
 
 static void at_best(void)
 {
-    number = best(places, marks, lengths, lengths_len, weights, marks, bytes, answer_len, words, answer_len, work_best,
+    number = best(places, marks, lengths, lengths_len, weights, marks, gap, bytes, answer_len, words, answer_len, work_best,
                   STRIP_WORK_BEST - missing, &sum, &count);
 }
 
@@ -144,25 +149,26 @@ static uint32_t below(size_t n)
     return (uint32_t)((state * 0x2545F4914F6CDD1DULL >> 32) * n >> 32);
 }
 
-/* Up to so many marks, often as many or one more; gaps and lengths up to limits with which some strips fit and some do not. */
+/* Up to so many marks, often as many or one more; steps and lengths up to limits with which some strips fit and some do not. */
 static void draw_marks(size_t most)
 {
     static const uint32_t widest[] = {1, 3, 9, 14, 90};
     static const uint32_t longest[] = {2, 6, 20, 240};
-    uint32_t gap = widest[below(5)];
+    uint32_t step = widest[below(5)];
     uint32_t length = longest[below(4)];
     int place = STRIP_PLACE_LEAST;
     size_t i;
 
     marks = below(3) == 0 ? most + below(2) : below(most);
-    if (marks * gap > 60000)
-        gap = 60000 / (uint32_t)marks;
+    if (marks * step > 60000)
+        step = 60000 / (uint32_t)marks;
     for (i = 0; i < marks; i++) {
         places[i] = (int16_t)place;
         lengths[i] = (uint8_t)(1 + below(length));
         weights[i] = (uint16_t)(1 + below(1000));
-        place += 1 + (int)below(gap);
+        place += 1 + (int)below(step);
     }
+    gap = (uint8_t)(below(2) * below(STRIP_GAP_MOST + 1));
 }
 
 /* In half of the cases one thing that a call refuses. */
@@ -172,7 +178,7 @@ static void draw_fault(void)
 
     lengths_len = answer_len = marks;
     missing = 0;
-    switch (below(12)) {
+    switch (below(14)) {
     case 0:
         lengths_len = marks + 1;
         break;
@@ -190,6 +196,9 @@ static void draw_fault(void)
         break;
     case 5:
         missing = 1 + below(STRIP_WORK_BEST);
+        break;
+    case 6:
+        gap = STRIP_GAP_MOST + 1;
         break;
     }
 }

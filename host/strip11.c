@@ -1,4 +1,4 @@
-/* Strip 11 of document 01 through all five calls, from C. Exit status 1 at a difference. */
+/* Strip 11 of document 01 through all five calls, from C, at gap 0; at gap 1 it no longer slides. Exit status 1 at a difference. */
 #include "strip.h"
 
 #include <stdio.h>
@@ -46,7 +46,7 @@ static void full(void)
 {
     static const uint8_t untouched[MARKS] = {7, 7, 7, 7, 7};
     uint8_t positions[MARKS] = {7, 7, 7, 7, 7};
-    uint8_t number = strip_full(places, MARKS, lengths, MARKS, weights, MARKS, positions, MARKS, work_full, STRIP_WORK_FULL);
+    uint8_t number = strip_full(places, MARKS, lengths, MARKS, weights, MARKS, 0, positions, MARKS, work_full, STRIP_WORK_FULL);
     expect(number == STRIP_NO_PLACING, "full gives 11");
     expect(memcmp(positions, untouched, sizeof positions) == 0, "positions are unchanged at 11");
 }
@@ -62,7 +62,7 @@ static void slide(void)
 
     memset(sides, 7, sizeof sides);
     memset(edges, 7, sizeof edges);
-    number = strip_slide(places, MARKS, lengths, MARKS, weights, MARKS, sides, MARKS, edges, MARKS, work_slide, STRIP_WORK_SLIDE);
+    number = strip_slide(places, MARKS, lengths, MARKS, weights, MARKS, 0, sides, MARKS, edges, MARKS, work_slide, STRIP_WORK_SLIDE);
     expect(number == STRIP_ACCEPTED, "slide fits");
     for (i = 0; i < MARKS; i++) {
         int least = places[i] - lengths[i];
@@ -76,13 +76,22 @@ static void slide(void)
     }
 }
 
+static void slide_at(uint8_t gap, uint8_t expected, const char *what)
+{
+    uint8_t sides[MARKS];
+    int16_t edges[MARKS];
+    uint8_t number =
+        strip_slide(places, MARKS, lengths, MARKS, weights, MARKS, gap, sides, MARKS, edges, MARKS, work_slide, STRIP_WORK_SLIDE);
+    expect(number == expected, what);
+}
+
 static void best(void)
 {
     uint8_t positions[MARKS] = {7, 7, 7, 7, 7};
     uint16_t left_out[MARKS] = {77, 77, 77, 77, 77};
     uint32_t sum = 99;
     size_t count = 99;
-    uint8_t number = strip_best(places, MARKS, lengths, MARKS, weights, MARKS, positions, MARKS, left_out, MARKS, work_best,
+    uint8_t number = strip_best(places, MARKS, lengths, MARKS, weights, MARKS, 0, positions, MARKS, left_out, MARKS, work_best,
                                 STRIP_WORK_BEST, &sum, &count);
     int i;
 
@@ -108,10 +117,12 @@ int main(void)
     read_job();
     full();
     slide();
+    slide_at(1, STRIP_NO_PLACING, "slide gives 11 at gap 1");
+    slide_at(STRIP_GAP_MOST + 1, STRIP_GAP_TOO_WIDE, "slide gives 12 at gap 9");
     best();
     write_job();
     if (differences != 0)
         return 1;
-    printf("strip 11 from C: as document 01 says\n");
+    printf("strip 11 from C: as the documents say\n");
     return 0;
 }

@@ -2,7 +2,8 @@
  * The strip labeller for C: marks on one line, a label for each above or below the line.
  *
  * A mark has a place and a length, in dots, and a weight. A strip is three lists of one length: places, lengths and weights, the
- * places strictly rising. Marks are numbered from 1. Labels of one side overlap if they share more than an end point.
+ * places strictly rising. Marks are numbered from 1. The passes take a gap, 0 to 8 dots: labels of one side overlap if they share more
+ * than an end point, or if fewer than that many dots lie between their nearer ends. At gap 0 they may touch.
  *
  * Every list is a pointer and then its count of elements. What the caller owes, and no call can test:
  *   - no pointer is NULL, also where the count is 0, and each is aligned for its element type;
@@ -15,7 +16,7 @@
  * unchanged. No call keeps a pointer, allocates memory or holds state of its own, so calls on separate buffers may run at once.
  *
  * The archive, target/staticlib/libexports.a, is an `ar` archive of one ELF object for x86-64 with the System V calling
- * convention: some 17,500 bytes, of them 11,900 code and constants, and no variables. It leaves one symbol undefined, memset. It
+ * convention: some 18,400 bytes, of them 12,800 code and constants, and no variables. It leaves one symbol undefined, memset. It
  * links into position-independent and into static programs. It uses SSE2 registers, and the 128 bytes below the stack pointer
  * that the convention keeps free: an interrupt on the same stack must leave both as they were.
  *
@@ -24,7 +25,7 @@
  *   - full: n to fill its table, n to walk, and 20,000 to clear the work area;
  *   - slide: 482n to fill its table, n to walk, and 30,000 to clear the work area;
  *   - best: 2n(n + 1)(2n + 1)/3 cells with five offers each (295,240 cells at 60 marks), 2n(n + 1) offers that the cells of a row
- *     share, 2n + 2 to prepare, 4n to walk, n(n + 1)/2 to list the left-out marks, and 30,000 to clear the work area twice;
+ *     share, 2n + 2 to prepare, 8n to walk, n(n + 1)/2 to list the left-out marks, and 30,000 to clear the work area twice;
  *   - reader and writer: 2n records, since each is looked at twice.
  */
 #ifndef STRIP_H
@@ -40,8 +41,9 @@ extern "C" {
 /*
  * Grows by one with each change of a signature or of an answer.
  *   2: strip_best lists left-out marks by falling weight, equal weights by rising number; in version 1 their order was open.
+ *   3: strip_full, strip_slide and strip_best take a gap behind the mark lists, and refuse 12; gap 0 gives the answers of version 2.
  */
-#define STRIP_VERSION 2
+#define STRIP_VERSION 3
 
 /* What a call returns. */
 #define STRIP_ACCEPTED 0
@@ -56,6 +58,7 @@ extern "C" {
 #define STRIP_LIST_TOO_SHORT 9  /* all: a list to be filled is shorter than the count of marks, or the output than the job */
 #define STRIP_WORK_TOO_SHORT 10 /* passes: the work area is shorter than named below */
 #define STRIP_NO_PLACING 11     /* full, slide: not every mark can have a label */
+#define STRIP_GAP_TOO_WIDE 12   /* passes: the gap is over 8; tested right after 6 */
 
 /* The ranges of a mark. */
 #define STRIP_PLACE_LEAST (-30000)
@@ -64,6 +67,10 @@ extern "C" {
 #define STRIP_LENGTH_MOST 240
 #define STRIP_WEIGHT_LEAST 1
 #define STRIP_WEIGHT_MOST 1000
+
+/* The gap, in dots, that a pass keeps between labels of one side. */
+#define STRIP_GAP_LEAST 0
+#define STRIP_GAP_MOST 8
 
 /* The most marks that a call takes, and the most bytes that a job of so many marks has. */
 #define STRIP_MARKS_FULL 4000
@@ -99,10 +106,10 @@ extern "C" {
  * 0: positions holds in its first places_len elements one of the positions 1 to 4 for each mark, no two labels overlapping. Of all
  * such lists it is the first, compared from mark 1 on, with the positions ranked 2, 3, 1, 4.
  * 11: there is no such list; positions is unchanged.
- * At 0 and at 11 the first STRIP_WORK_FULL elements of work are 0 and the rest of it is unchanged. 6 to 10: nothing is changed.
+ * At 0 and at 11 the first STRIP_WORK_FULL elements of work are 0 and the rest of it is unchanged. 6 to 10 and 12: nothing is changed.
  */
 uint8_t strip_full(const int16_t *places, size_t places_len, const uint8_t *lengths, size_t lengths_len,
-                   const uint16_t *weights, size_t weights_len, uint8_t *positions, size_t positions_len,
+                   const uint16_t *weights, size_t weights_len, uint8_t gap, uint8_t *positions, size_t positions_len,
                    int16_t *work, size_t work_len);
 
 /*
@@ -112,11 +119,11 @@ uint8_t strip_full(const int16_t *places, size_t places_len, const uint8_t *leng
  * two labels overlapping. Given the sides, every label is as far left as it goes, taking marks from left to right; which sides is
  * open.
  * 11: there are no such lists, also at fractions of a dot; sides and edges are unchanged.
- * At 0 and at 11 the first STRIP_WORK_SLIDE elements of work are 0 and the rest of it is unchanged. 6 to 10: nothing is changed.
+ * At 0 and at 11 the first STRIP_WORK_SLIDE elements of work are 0 and the rest of it is unchanged. 6 to 10 and 12: nothing is changed.
  */
 uint8_t strip_slide(const int16_t *places, size_t places_len, const uint8_t *lengths, size_t lengths_len,
-                    const uint16_t *weights, size_t weights_len, uint8_t *sides, size_t sides_len, int16_t *edges,
-                    size_t edges_len, uint16_t *work, size_t work_len);
+                    const uint16_t *weights, size_t weights_len, uint8_t gap, uint8_t *sides, size_t sides_len,
+                    int16_t *edges, size_t edges_len, uint16_t *work, size_t work_len);
 
 /*
  * The best pass: labels at the four positions for marks that may go without one, with the greatest sum of weights.
@@ -125,10 +132,10 @@ uint8_t strip_slide(const int16_t *places, size_t places_len, const uint8_t *len
  * sum of the weights of the labelled marks, and no such list has a greater one; which of those with that sum is open. The first
  * *count elements of left_out are the numbers of the marks at 0, each once: by falling weight, and equal weights by rising number.
  * The first STRIP_WORK_BEST elements of work are 0 and the rest of it is unchanged.
- * 6 to 10: *sum and *count are 0, nothing else is changed. 9 compares both answer lists with the count of marks.
+ * 6 to 10 and 12: *sum and *count are 0, nothing else is changed. 9 compares both answer lists with the count of marks.
  */
 uint8_t strip_best(const int16_t *places, size_t places_len, const uint8_t *lengths, size_t lengths_len,
-                   const uint16_t *weights, size_t weights_len, uint8_t *positions, size_t positions_len,
+                   const uint16_t *weights, size_t weights_len, uint8_t gap, uint8_t *positions, size_t positions_len,
                    uint16_t *left_out, size_t left_out_len, uint32_t *work, size_t work_len, uint32_t *sum,
                    size_t *count);
 

@@ -17,8 +17,15 @@ use std::ops::Range;
 use strips::{fitting_strip, Shape, Strip};
 use timing::{growth, row, Row, Sides};
 
-const SHORT: Shape = Shape { gap: 14, length: 20 };
-const LONG: Shape = Shape { gap: 90, length: 240 };
+const SHORT: Shape = Shape { step: 14, length: 20 };
+const LONG: Shape = Shape { step: 90, length: 240 };
+
+// The gap that the passes are handed, the one that passes without a gap have; no side may know it beforehand.
+const GAP: u8 = 0;
+
+fn gap() -> u8 {
+    std::hint::black_box(GAP)
+}
 
 // Strips in each set: long calls are timed on fewer.
 const MANY: usize = 64;
@@ -26,7 +33,7 @@ const FEW: usize = 8;
 
 // Strips of exactly so many marks that fit.
 fn fitting(strips: usize, marks: usize, shape: Shape) -> Vec<Strip> {
-    let made = (1..).map(|seed| fitting_strip(&mut Random::new(seed), marks, shape));
+    let made = (1..).map(|seed| fitting_strip(&mut Random::new(seed), marks, shape, GAP));
     made.filter(|strip| strip.places.len() == marks).take(strips).collect()
 }
 
@@ -67,23 +74,25 @@ fn jobs(strips: &[Strip]) -> Vec<Vec<u8>> {
     strips.iter().map(job).collect()
 }
 
-// The calls of one archive, as they are timed.
+// The calls of one archive, as they are timed, with a gap if its passes take one.
 macro_rules! runs {
-    ($calls:path) => {
+    ($calls:path $(, $gap:expr)?) => {
         use crate::{lists::Lists, strips::Strip};
         use $calls as calls;
 
         pub fn full(s: &Strip, _: &[u8], l: &mut Lists) {
-            l.number = calls::full(&s.places, &s.lengths, &s.weights, &mut l.bytes, &mut l.work_i16);
+            l.number = calls::full(&s.places, &s.lengths, &s.weights, $($gap,)? &mut l.bytes, &mut l.work_i16);
         }
 
         pub fn slide(s: &Strip, _: &[u8], l: &mut Lists) {
-            l.number = calls::slide(&s.places, &s.lengths, &s.weights, &mut l.bytes, &mut l.edges, &mut l.work_u16);
+            let (sides, edges, work) = (&mut l.bytes, &mut l.edges, &mut l.work_u16);
+            l.number = calls::slide(&s.places, &s.lengths, &s.weights, $($gap,)? sides, edges, work);
         }
 
         pub fn best(s: &Strip, _: &[u8], l: &mut Lists) {
+            let (positions, left_out, work) = (&mut l.bytes, &mut l.words, &mut l.work_u32);
             let (sum, count) = (&mut l.sum, &mut l.count);
-            l.number = calls::best(&s.places, &s.lengths, &s.weights, &mut l.bytes, &mut l.words, &mut l.work_u32, sum, count);
+            l.number = calls::best(&s.places, &s.lengths, &s.weights, $($gap,)? positions, left_out, work, sum, count);
         }
 
         pub fn read(_: &Strip, job: &[u8], l: &mut Lists) {
@@ -97,24 +106,27 @@ macro_rules! runs {
 }
 
 mod exported {
-    runs!(crate::calls);
+    runs!(crate::calls, crate::gap());
 }
 
 #[cfg(compared)]
 mod earlier {
+    #[cfg(not(without_gap))]
+    runs!(::before, crate::gap());
+    #[cfg(without_gap)]
     runs!(::before);
 }
 
 fn plain_full(s: &Strip, _: &[u8], l: &mut Lists) {
-    l.number = plain::full::full(&s.places, &s.lengths, &s.weights, &mut l.bytes, &mut l.work_i16);
+    l.number = plain::full::full(&s.places, &s.lengths, &s.weights, gap(), &mut l.bytes, &mut l.work_i16);
 }
 
 fn plain_slide(s: &Strip, _: &[u8], l: &mut Lists) {
-    l.number = plain::slide::slide(&s.places, &s.lengths, &s.weights, &mut l.bytes, &mut l.edges, &mut l.work_u16);
+    l.number = plain::slide::slide(&s.places, &s.lengths, &s.weights, gap(), &mut l.bytes, &mut l.edges, &mut l.work_u16);
 }
 
 fn plain_best(s: &Strip, _: &[u8], l: &mut Lists) {
-    let answer = plain::best::best(&s.places, &s.lengths, &s.weights, &mut l.bytes, &mut l.words, &mut l.work_u32);
+    let answer = plain::best::best(&s.places, &s.lengths, &s.weights, gap(), &mut l.bytes, &mut l.words, &mut l.work_u32);
     (l.number, l.sum, l.count) = (answer.number, answer.sum, answer.count);
 }
 

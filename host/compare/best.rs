@@ -9,16 +9,16 @@ use std::collections::HashMap;
 
 pub const LIMITS: Limits = Limits { marks: 60, answers: 2, work: 15_000 };
 
-fn greatest(strip: &Strip, mark: usize, labels: &mut Vec<Label>) -> u32 {
+fn greatest(strip: &Strip, gap: i32, mark: usize, labels: &mut Vec<Label>) -> u32 {
     if mark == strip.places.len() {
         return 0;
     }
-    let mut most = greatest(strip, mark + 1, labels);
+    let mut most = greatest(strip, gap, mark + 1, labels);
     for position in 1..=4 {
         let next = label(strip.places[mark], strip.lengths[mark], position);
-        if labels.iter().all(|earlier| !overlap(*earlier, next)) {
+        if labels.iter().all(|earlier| !overlap(*earlier, next, gap)) {
             labels.push(next);
-            most = most.max(strip.weights[mark] as u32 + greatest(strip, mark + 1, labels));
+            most = most.max(strip.weights[mark] as u32 + greatest(strip, gap, mark + 1, labels));
             labels.pop();
         }
     }
@@ -26,13 +26,13 @@ fn greatest(strip: &Strip, mark: usize, labels: &mut Vec<Label>) -> u32 {
 }
 
 // Plain search through all choices.
-pub fn by_plain_search(strip: &Strip) -> u32 {
-    greatest(strip, 0, &mut Vec::new())
+pub fn by_plain_search(strip: &Strip, gap: i32) -> u32 {
+    greatest(strip, gap, 0, &mut Vec::new())
 }
 
-// From left to right: for each pair of reaches the greatest sum that leads to it. A reach that no later label's left end lies below
-// counts as none.
-pub fn by_reaches(strip: &Strip) -> u32 {
+// From left to right: for each pair of reaches, with the gap, the greatest sum that leads to it. A reach that no later label's left end
+// lies below counts as none.
+pub fn by_reaches(strip: &Strip, gap: i32) -> u32 {
     let marks = strip.places.len();
     let mut sums = HashMap::from([((i32::MIN, i32::MIN), 0u32)]);
     for i in 0..marks {
@@ -50,9 +50,9 @@ pub fn by_reaches(strip: &Strip) -> u32 {
                 let next = label(strip.places[i], strip.lengths[i], position);
                 let earned = sum + strip.weights[i] as u32;
                 if next.above && *above <= next.left {
-                    offer(next.right, *below, earned);
+                    offer(next.right + gap, *below, earned);
                 } else if !next.above && *below <= next.left {
-                    offer(*above, next.right, earned);
+                    offer(*above, next.right + gap, earned);
                 }
             }
         }
@@ -73,11 +73,12 @@ fn heaviest_first(strip: &Strip, chosen: &[u8]) -> Vec<u16> {
 }
 
 // The listed choice has the reported sum and no overlap, and its marks at 0 are listed heaviest first.
-fn choice(strip: &Strip, positions: &Lent<u8>, left_out: &Lent<u16>, sum: u32, count: usize) -> Result<(), String> {
+fn choice(call: &Call, positions: &Lent<u8>, left_out: &Lent<u16>, sum: u32, count: usize) -> Result<(), String> {
+    let strip = &call.strip;
     let chosen = positions.now()[..strip.places.len()].to_vec();
     ensure(chosen.iter().all(|position| *position <= 4), "a position above 4")?;
     ensure(positions.written(&chosen), "positions beyond the used part")?;
-    ensure(overlap_free(strip, &chosen), "labels overlap")?;
+    ensure(overlap_free(strip, &chosen, call.gap as i32), "labels overlap")?;
     let labelled = (0..chosen.len()).filter(|i| chosen[*i] != 0);
     let earned: u32 = labelled.map(|i| strip.weights[i] as u32).sum();
     ensure(earned == sum, "a sum that the labels do not earn")?;
@@ -86,7 +87,7 @@ fn choice(strip: &Strip, positions: &Lent<u8>, left_out: &Lent<u16>, sum: u32, c
     ensure(left_out.written(&out), "the left-out list, heaviest first, or what stands behind it")
 }
 
-pub fn compare(random: &mut Random, call: &Call, best_sum: fn(&Strip) -> u32) -> Result<u8, String> {
+pub fn compare(random: &mut Random, call: &Call, best_sum: fn(&Strip, i32) -> u32) -> Result<u8, String> {
     let mut marks = LentMarks::of(random, &call.strip);
     let mut positions: Lent<u8> = Lent::of_length(random, call.answers[0]);
     let mut left_out: Lent<u16> = Lent::of_length(random, call.answers[1]);
@@ -97,6 +98,7 @@ pub fn compare(random: &mut Random, call: &Call, best_sum: fn(&Strip) -> u32) ->
         marks.places.list(),
         marks.lengths.list(),
         marks.weights.list(),
+        call.gap,
         positions.list(),
         left_out.list(),
         work.list(),
@@ -113,10 +115,10 @@ pub fn compare(random: &mut Random, call: &Call, best_sum: fn(&Strip) -> u32) ->
         return Ok(number);
     }
     ensure(work.cleared(LIMITS.work), "the work area")?;
-    let expected = best_sum(&call.strip);
+    let expected = best_sum(&call.strip, call.gap as i32);
     let listed = count.now()[0];
     ensure(sum.written(&[expected]), &format!("sum {}, not {expected}", sum.now()[0]))?;
     ensure(count.written(&[listed]) && listed <= call.strip.places.len(), "the count")?;
-    choice(&call.strip, &positions, &left_out, expected, listed)?;
+    choice(call, &positions, &left_out, expected, listed)?;
     Ok(number)
 }

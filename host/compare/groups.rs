@@ -1,6 +1,6 @@
 // The groups of strips and jobs. Each must meet every number that it names, so that no group passes by trying nothing.
 use crate::codec::Job;
-use crate::marks::{damage_strip, some_call, Call, Limits};
+use crate::marks::{damage_strip, some_call, some_gap, Call, Limits};
 use crate::near::{any_strip, some_strip};
 use crate::random::Random;
 use crate::strips::{fitting_strip, Shape, Strip};
@@ -17,7 +17,7 @@ fn group<C: Debug>(
     compare: impl Fn(&mut Random, &C) -> Result<u8, String>,
 ) -> usize {
     let mut random = Random::new(seed);
-    let mut seen = [0; 12];
+    let mut seen = [0; 13];
     for _ in 0..cases {
         let case = make(&mut random);
         match compare(&mut random, &case) {
@@ -39,11 +39,12 @@ fn group<C: Debug>(
 
 // Up to so many marks, in shapes where some strips fit and some do not; half of the calls damaged.
 fn small_call(random: &mut Random, most: usize, limits: &Limits) -> Call {
-    let shape = Shape { gap: random.between(1, 12), length: [4, 12, 40, 240][random.below(4)] };
+    let shape = Shape { step: random.between(1, 12), length: [4, 12, 40, 240][random.below(4)] };
     let marks = random.below(most + 1);
-    let strip = some_strip(random, marks, shape);
+    let gap = some_gap(random);
+    let strip = some_strip(random, marks, shape, gap);
     let damaged = random.once_in(2);
-    some_call(random, strip, limits, damaged)
+    some_call(random, strip, gap, limits, damaged)
 }
 
 // Up to the most marks that a pass takes, often exactly so many, and sometimes one more.
@@ -52,35 +53,47 @@ fn large_call(random: &mut Random, limits: &Limits) -> Call {
     let marks = [random.below(most + 1), most, most - random.below(9), most + random.below(2)][random.below(4)];
     let dense = most > 1_000;
     let shape = if dense {
-        Shape { gap: random.between(4, 14), length: random.between(4, 30) }
+        Shape { step: random.between(4, 14), length: random.between(4, 30) }
     } else {
-        Shape { gap: random.between(2, 60), length: [10, 40, 120, 240][random.below(4)] }
+        Shape { step: random.between(2, 60), length: [10, 40, 120, 240][random.below(4)] }
     };
+    let gap = some_gap(random);
     let strip = match random.below(4) {
         0 => any_strip(random, marks, shape),
-        1 | 2 => fitting_strip(random, marks, shape),
-        _ => some_strip(random, marks, shape),
+        1 | 2 => fitting_strip(random, marks, shape, gap),
+        _ => some_strip(random, marks, shape, gap),
     };
     let damaged = random.once_in(4);
-    some_call(random, strip, limits, damaged)
+    some_call(random, strip, gap, limits, damaged)
 }
 
 // Up to 6 marks close together, often with labels all of one length: few enough to try every part of a dot.
 fn crowded_call(random: &mut Random, limits: &Limits) -> Call {
-    let shape = Shape { gap: [1, 1, 2][random.below(3)], length: random.between(2, 6) };
+    let shape = Shape { step: [1, 1, 2][random.below(3)], length: random.between(2, 6) };
     let marks = random.below(7);
     let mut strip = any_strip(random, marks, shape);
     if random.once_in(2) {
         strip.lengths.fill(shape.length as u8);
     }
-    some_call(random, strip, limits, false)
+    let gap = some_gap(random);
+    some_call(random, strip, gap, limits, false)
+}
+
+// Strips 7, 8, 9 and 11 of document 01, at gaps 0, 1 and 8, and at gaps that are too wide; half of the calls damaged.
+fn worked_call(random: &mut Random, limits: &Limits) -> Call {
+    let last = [12, 11, 10][random.below(3)];
+    let weights = [[1, 1, 1, 1, 1], [9, 2, 9, 9, 9]][random.below(2)];
+    let strip = Strip { places: vec![0, 1, 2, 3, last], lengths: vec![10; 5], weights: weights.to_vec() };
+    let gap = [0, 1, 8, 9, 255][random.below(5)];
+    let damaged = random.once_in(2);
+    some_call(random, strip, gap, limits, damaged)
 }
 
 // 40 to 60 marks, of which at most four find room: each label is longer than all places lie apart. Few different weights, six times or
 // more 1 and six times or more 1,000, so that two of each at least are left out.
 fn many_left_out_call(random: &mut Random, limits: &Limits) -> Call {
     let marks = random.between(40, 60) as usize;
-    let mut strip = any_strip(random, marks, Shape { gap: 2, length: 1 });
+    let mut strip = any_strip(random, marks, Shape { step: 2, length: 1 });
     strip.lengths = strip.places.iter().map(|_| random.between(120, 240) as u8).collect();
     let middle = random.between(2, 999) as u16;
     let weights = [[1, 1, 1_000, 1_000], [1, middle, middle, 1_000], [1, 2, 999, 1_000]][random.below(3)];
@@ -88,7 +101,8 @@ fn many_left_out_call(random: &mut Random, limits: &Limits) -> Call {
     while !(often(&strip, 1) && often(&strip, 1_000)) {
         strip.weights = strip.places.iter().map(|_| weights[random.below(4)]).collect();
     }
-    some_call(random, strip, limits, false)
+    let gap = some_gap(random);
+    some_call(random, strip, gap, limits, false)
 }
 
 #[derive(Debug)]
@@ -98,7 +112,7 @@ struct ReadCase {
 }
 
 fn read_case(random: &mut Random, most: usize) -> ReadCase {
-    let shape = Shape { gap: [1, 2, 9, 1_000, 60_000][random.below(5)], length: [8, 9, 240][random.below(3)] };
+    let shape = Shape { step: [1, 2, 9, 1_000, 60_000][random.below(5)], length: [8, 9, 240][random.below(3)] };
     let marks = [random.below(most + 1), random.below(most + 1), most][random.below(3)];
     let strip = any_strip(random, marks, shape);
     let bytes = job::some_job(random, &strip);
@@ -116,7 +130,7 @@ struct WriteCase {
 }
 
 fn write_case(random: &mut Random, most: usize) -> WriteCase {
-    let shape = Shape { gap: [1, 2, 9, 1_000, 60_000][random.below(5)], length: [8, 9, 240][random.below(3)] };
+    let shape = Shape { step: [1, 2, 9, 1_000, 60_000][random.below(5)], length: [8, 9, 240][random.below(3)] };
     let marks = [random.below(most + 1), most, 4_000 + random.below(2)][if random.once_in(200) { 2 } else { random.below(2) }];
     let mut strip = any_strip(random, marks, shape);
     let length = Job::of(&strip).bytes().len();
@@ -135,7 +149,7 @@ pub fn run_all() -> usize {
             "full, to 9 marks, plain search",
             1,
             30_000,
-            &[0, 6, 8, 9, 10, 11],
+            &[0, 6, 8, 9, 10, 11, 12],
             |r| small_call(r, 9, &full::LIMITS),
             |r, c| full::compare(r, c, full::by_plain_search),
         ),
@@ -143,7 +157,7 @@ pub fn run_all() -> usize {
             "full, to 9 marks, dead ends kept",
             2,
             10_000,
-            &[0, 6, 8, 9, 10, 11],
+            &[0, 6, 8, 9, 10, 11, 12],
             |r| small_call(r, 9, &full::LIMITS),
             |r, c| full::compare(r, c, full::by_dead_ends),
         ),
@@ -151,9 +165,17 @@ pub fn run_all() -> usize {
             "full, to 4,000 marks, dead ends kept",
             3,
             3_000,
-            &[0, 6, 7, 8, 9, 10, 11],
+            &[0, 6, 7, 8, 9, 10, 11, 12],
             |r| large_call(r, &full::LIMITS),
             |r, c| full::compare(r, c, full::by_dead_ends),
+        ),
+        group(
+            "full, strips 7, 8, 9 and 11, plain search",
+            14,
+            500,
+            &[0, 6, 8, 9, 10, 11, 12],
+            |r| worked_call(r, &full::LIMITS),
+            |r, c| full::compare(r, c, full::by_plain_search),
         ),
         group(
             "slide, to 6 marks, parts of a dot",
@@ -167,7 +189,7 @@ pub fn run_all() -> usize {
             "slide, to 10 marks, all sides",
             5,
             20_000,
-            &[0, 6, 8, 9, 10, 11],
+            &[0, 6, 8, 9, 10, 11, 12],
             |r| small_call(r, 10, &slide::LIMITS),
             |r, c| slide::compare(r, c, slide::by_all_sides),
         ),
@@ -175,15 +197,23 @@ pub fn run_all() -> usize {
             "slide, to 60 marks, all reaches",
             6,
             4_000,
-            &[0, 6, 7, 8, 9, 10, 11],
+            &[0, 6, 7, 8, 9, 10, 11, 12],
             |r| large_call(r, &slide::LIMITS),
             |r, c| slide::compare(r, c, slide::by_reaches),
+        ),
+        group(
+            "slide, strips 7, 8, 9 and 11, all sides",
+            15,
+            500,
+            &[0, 6, 8, 9, 10, 11, 12],
+            |r| worked_call(r, &slide::LIMITS),
+            |r, c| slide::compare(r, c, slide::by_all_sides),
         ),
         group(
             "best, to 6 marks, plain search",
             7,
             20_000,
-            &[0, 6, 8, 9, 10],
+            &[0, 6, 8, 9, 10, 12],
             |r| small_call(r, 6, &best::LIMITS),
             |r, c| best::compare(r, c, best::by_plain_search),
         ),
@@ -191,9 +221,17 @@ pub fn run_all() -> usize {
             "best, to 60 marks, all reaches",
             8,
             1_500,
-            &[0, 6, 7, 8, 9, 10],
+            &[0, 6, 7, 8, 9, 10, 12],
             |r| large_call(r, &best::LIMITS),
             |r, c| best::compare(r, c, best::by_reaches),
+        ),
+        group(
+            "best, strips 7, 8, 9 and 11, plain search",
+            16,
+            500,
+            &[0, 6, 8, 9, 10, 12],
+            |r| worked_call(r, &best::LIMITS),
+            |r, c| best::compare(r, c, best::by_plain_search),
         ),
         group(
             "best, all but four left out, all reaches",

@@ -1,12 +1,13 @@
-// The three mark lists as they are lent to a call, with the checks 6 to 10 and the damage that tries them.
+// The three mark lists as they are lent to a call, with the checks 6 to 10 and 12 and the damage that tries them.
 use crate::lent::{ensure, Lent};
 use crate::random::Random;
 use crate::strips::Strip;
 
-// What a pass is called with: the mark lists, the lengths of its answer lists and of its work area.
+// What a pass is called with: the mark lists, the gap, the lengths of its answer lists and of its work area.
 #[derive(Clone, Debug)]
 pub struct Call {
     pub strip: Strip,
+    pub gap: u8,
     pub answers: Vec<usize>,
     pub work: usize,
 }
@@ -25,12 +26,15 @@ fn in_range(strip: &Strip) -> bool {
         && strip.places.windows(2).all(|pair| pair[0] < pair[1])
 }
 
+fn is_unequal(strip: &Strip) -> bool {
+    strip.lengths.len() != strip.places.len() || strip.weights.len() != strip.places.len()
+}
+
 // The number of the first check on entry, 6 to 8, that is not passed.
 pub fn entry_number(strip: &Strip, most: usize) -> u8 {
-    let marks = strip.places.len();
-    if strip.lengths.len() != marks || strip.weights.len() != marks {
+    if is_unequal(strip) {
         6
-    } else if marks > most {
+    } else if strip.places.len() > most {
         7
     } else if !in_range(strip) {
         8
@@ -39,9 +43,12 @@ pub fn entry_number(strip: &Strip, most: usize) -> u8 {
     }
 }
 
+// The same for a pass, which tests the gap right after 6, and the lengths of what it is lent at the end.
 pub fn pass_number(call: &Call, limits: &Limits) -> u8 {
     let entry = entry_number(&call.strip, limits.marks);
-    if entry != 0 {
+    if !is_unequal(&call.strip) && call.gap > 8 {
+        12
+    } else if entry != 0 {
         entry
     } else if call.answers.iter().any(|length| *length < call.strip.places.len()) {
         9
@@ -94,14 +101,22 @@ pub fn damage_strip(random: &mut Random, strip: &mut Strip) {
     }
 }
 
+// A gap of 0 to 8, often 0 or 1.
+pub fn some_gap(random: &mut Random) -> u8 {
+    [0, 1, random.below(9) as u8, random.below(9) as u8][random.below(4)]
+}
+
 // A call on a strip with answer lists and a work area that are long enough, then damaged.
-pub fn some_call(random: &mut Random, strip: Strip, limits: &Limits, damaged: bool) -> Call {
+pub fn some_call(random: &mut Random, strip: Strip, gap: u8, limits: &Limits, damaged: bool) -> Call {
     let marks = strip.places.len();
     let answers = (0..limits.answers).map(|_| marks + random.below(9)).collect();
     let work = limits.work + random.below(40);
-    let mut call = Call { strip, answers, work };
+    let mut call = Call { strip, gap, answers, work };
     if damaged {
         damage_strip(random, &mut call.strip);
+        if random.once_in(8) {
+            call.gap = [9, 255, random.between(9, 255) as u8][random.below(3)];
+        }
         if random.once_in(8) && marks > 0 {
             let at = random.below(limits.answers);
             call.answers[at] = [marks - 1, random.below(marks)][random.below(2)];

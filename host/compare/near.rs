@@ -3,7 +3,7 @@ use crate::random::Random;
 use crate::strips::{at_some_place, fitting_strip, Shape, Strip};
 
 pub fn any_strip(random: &mut Random, marks: usize, shape: Shape) -> Strip {
-    let widest = shape.gap.min(60_000 / marks.max(1) as i32).max(1);
+    let widest = shape.step.min(60_000 / marks.max(1) as i32).max(1);
     let mut offset = 0;
     let mut offsets = Vec::new();
     let mut lengths = Vec::new();
@@ -16,8 +16,8 @@ pub fn any_strip(random: &mut Random, marks: usize, shape: Shape) -> Strip {
 }
 
 // A strip that is about to fit or not: one that fits, with some labels lengthened.
-fn near_strip(random: &mut Random, marks: usize, shape: Shape) -> Strip {
-    let mut strip = fitting_strip(random, marks, shape);
+fn near_strip(random: &mut Random, marks: usize, shape: Shape, gap: u8) -> Strip {
+    let mut strip = fitting_strip(random, marks, shape, gap);
     for _ in 0..random.below(3) {
         if !strip.lengths.is_empty() {
             let at = random.below(strip.lengths.len());
@@ -27,10 +27,10 @@ fn near_strip(random: &mut Random, marks: usize, shape: Shape) -> Strip {
     strip
 }
 
-pub fn some_strip(random: &mut Random, marks: usize, shape: Shape) -> Strip {
+pub fn some_strip(random: &mut Random, marks: usize, shape: Shape, gap: u8) -> Strip {
     match random.below(3) {
         0 => any_strip(random, marks, shape),
-        1 => fitting_strip(random, marks, shape),
-        _ => near_strip(random, marks, shape),
+        1 => fitting_strip(random, marks, shape, gap),
+        _ => near_strip(random, marks, shape, gap),
     }
 }

@@ -1,6 +1,6 @@
 // The five calls of include/strip.h, on slices: a slice is a pointer and its count of elements, never null and never overlapping
-// another that is lent to the same call, so every use is within the header's rules. Built with `--cfg before` they are those of the
-// archive of an earlier commit, whose names host/bench lengthens so that both can be linked.
+// another that is lent to the same call, so every use is within the header's rules. Built with `--cfg before` from an earlier
+// commit they are those of its archive, whose names host/bench lengthens so that both can be linked.
 
 #[cfg_attr(not(before), link(name = "exports", kind = "static"))]
 #[cfg_attr(before, link(name = "before", kind = "static"))]
@@ -13,6 +13,7 @@ extern "C" {
         lengths_len: usize,
         weights: *const u16,
         weights_len: usize,
+        gap: u8,
         positions: *mut u8,
         positions_len: usize,
         work: *mut i16,
@@ -26,6 +27,7 @@ extern "C" {
         lengths_len: usize,
         weights: *const u16,
         weights_len: usize,
+        gap: u8,
         sides: *mut u8,
         sides_len: usize,
         edges: *mut i16,
@@ -41,6 +43,7 @@ extern "C" {
         lengths_len: usize,
         weights: *const u16,
         weights_len: usize,
+        gap: u8,
         positions: *mut u8,
         positions_len: usize,
         left_out: *mut u16,
@@ -76,7 +79,7 @@ extern "C" {
     ) -> u8;
 }
 
-pub fn full(places: &[i16], lengths: &[u8], weights: &[u16], positions: &mut [u8], work: &mut [i16]) -> u8 {
+pub fn full(places: &[i16], lengths: &[u8], weights: &[u16], gap: u8, positions: &mut [u8], work: &mut [i16]) -> u8 {
     unsafe {
         strip_full(
             places.as_ptr(),
@@ -85,6 +88,7 @@ pub fn full(places: &[i16], lengths: &[u8], weights: &[u16], positions: &mut [u8
             lengths.len(),
             weights.as_ptr(),
             weights.len(),
+            gap,
             positions.as_mut_ptr(),
             positions.len(),
             work.as_mut_ptr(),
@@ -93,7 +97,15 @@ pub fn full(places: &[i16], lengths: &[u8], weights: &[u16], positions: &mut [u8
     }
 }
 
-pub fn slide(places: &[i16], lengths: &[u8], weights: &[u16], sides: &mut [u8], edges: &mut [i16], work: &mut [u16]) -> u8 {
+pub fn slide(
+    places: &[i16],
+    lengths: &[u8],
+    weights: &[u16],
+    gap: u8,
+    sides: &mut [u8],
+    edges: &mut [i16],
+    work: &mut [u16],
+) -> u8 {
     unsafe {
         strip_slide(
             places.as_ptr(),
@@ -102,6 +114,7 @@ pub fn slide(places: &[i16], lengths: &[u8], weights: &[u16], sides: &mut [u8], 
             lengths.len(),
             weights.as_ptr(),
             weights.len(),
+            gap,
             sides.as_mut_ptr(),
             sides.len(),
             edges.as_mut_ptr(),
@@ -116,6 +129,7 @@ pub fn best(
     places: &[i16],
     lengths: &[u8],
     weights: &[u16],
+    gap: u8,
     positions: &mut [u8],
     left_out: &mut [u16],
     work: &mut [u32],
@@ -130,6 +144,7 @@ pub fn best(
             lengths.len(),
             weights.as_ptr(),
             weights.len(),
+            gap,
             positions.as_mut_ptr(),
             positions.len(),
             left_out.as_mut_ptr(),

@@ -8,10 +8,10 @@ pub struct Strip {
     pub weights: Vec<u16>,
 }
 
-// How wide the gaps between marks and how long the labels are at most.
+// How far a mark lies from the one before it and how long the labels are at most.
 #[derive(Clone, Copy)]
 pub struct Shape {
-    pub gap: i32,
+    pub step: i32,
     pub length: i32,
 }
 
@@ -31,7 +31,7 @@ pub fn at_some_place(random: &mut Random, offsets: &[i32], lengths: Vec<u8>) -> 
     }
 }
 
-// The longest label that a mark at `place` can have on a side that reaches to `reach`, 0 for none.
+// The longest label that a mark at `place` can have on a side that, with the gap, reaches to `reach`, 0 for none.
 fn room(place: i32, reach: i32, right: bool, longest: i32) -> i32 {
     if right {
         if reach <= place {
@@ -44,9 +44,9 @@ fn room(place: i32, reach: i32, right: bool, longest: i32) -> i32 {
     }
 }
 
-// A strip that fits, of at most so many marks: each has a label, at one of the four positions, beside those before it. Fewer marks if
-// the range of places is used up.
-pub fn fitting_strip(random: &mut Random, marks: usize, shape: Shape) -> Strip {
+// A strip that fits at a gap, of at most so many marks: each has a label, at one of the four positions, beside those before it. Fewer
+// marks if the range of places is used up.
+pub fn fitting_strip(random: &mut Random, marks: usize, shape: Shape, gap: u8) -> Strip {
     let mut reaches = [-1_000, -1_000];
     let mut place = 0;
     let mut offsets = Vec::new();
@@ -58,10 +58,10 @@ pub fn fitting_strip(random: &mut Random, marks: usize, shape: Shape) -> Strip {
         let free = tried.iter().find(|(side, right)| room(place, reaches[*side], *right, shape.length) > 0);
         if let Some(&(side, right)) = free {
             let length = random.between(1, room(place, reaches[side], right, shape.length));
-            reaches[side] = if right { place + length } else { place };
+            reaches[side] = gap as i32 + if right { place + length } else { place };
             offsets.push(place);
             lengths.push(length as u8);
-            place += random.between(1, shape.gap);
+            place += random.between(1, shape.step);
         } else {
             place += 1;
         }

@@ -6,10 +6,11 @@ use native.Mathlib.Omega.{arith}
 use lib.ListN.{length}
 use Rattle.geometry.specs.Strip.{Strip}
 use Rattle.geometry.specs.Position.{above, below, Position}
+use Rattle.geometry.specs.Pass.{mostGap}
 use Rattle.best.specs.inner.Names.{names, lastAfter, reachAt}
-use Rattle.best.specs.inner.Checked.{Checked, Ready}
+use Rattle.best.specs.inner.Checked.{Checked}
 use Rattle.best.specs.inner.Table.{cellWorth, Partly, Filled}
-use Rattle.best.specs.inner.Trial.{mostSum, SmallCells, BeforeMark}
+use Rattle.best.specs.inner.Trial.{mostSum, SmallCells, GainAsked, BeforeMark}
 use Rattle.best.proofs.SumsAreSmall.{worth-limit}
 use Rattle.best.proofs.CellsHoldWorth.{above-after, below-after}
 
@@ -18,30 +19,18 @@ cell-limit : (g j x y : ℕ) (s : Strip) (work : List ℕ) → Checked s work �
 unfolding cellWorth
 cell-limit g j x y s work h = worth-limit g (reachAt g s x) (reachAt g s y) (max j (max (x / 2) (y / 2))) s work h
 
-module _ (g : ℕ) (s : Strip) (reaches work : List ℕ) (k x y : ℕ) (ready : Ready s reaches work) (in-strip : k < length (s .places))
+module _ (g : ℕ) (s : Strip) (work : List ℕ) (k x y : ℕ) (checked : Checked s work) (in-strip : k < length (s .places))
     (above-before : x / 2 ≤ k) (below-before : y / 2 ≤ k) where
-  -- what trying the mark asks, from small cells
-  before-mark : SmallCells work k x y → BeforeMark s reaches work k x y
-  before-mark small =
-      let h = ready .checked in
-      record {
-        room = record {
-          same-lengths = h .same-lengths;
-          places-good = h .places-good;
-          reaches-known = ready .reaches-known;
-          in-strip = in-strip;
-          above-before = above-before;
-          below-before = below-before;
-        };
-        gain = record {
-          in-strip = omega arith;
-          few = omega arith;
-          above-named = omega arith;
-          below-named = omega arith;
-          roomy = h .roomy;
-          small = small;
-        };
-      }
+  -- what adding a weight to a cell asks, from small cells
+  gain-asked : SmallCells work k x y → GainAsked (s .weights) work k x y
+  gain-asked small = record {
+    in-strip = omega arith;
+    few = omega arith;
+    above-named = omega arith;
+    below-named = omega arith;
+    roomy = checked .roomy;
+    small = small;
+  }
 
   -- the names of the last labels once mark k is at p
   abbrev x′ : Position → ℕ
@@ -52,15 +41,30 @@ module _ (g : ℕ) (s : Strip) (reaches work : List ℕ) (k x y : ℕ) (ready : 
 
   -- the cells that it leads to are in the table
   in-table : (p : Position) → (x′ p < names) × (y′ p < names)
-  in-table p =
-      let h = ready .checked in
-      (above-after g s work k x y h in-strip above-before below-before p, below-after g s work k x y h in-strip above-before below-before p)
+  in-table p = (
+    above-after g s work k x y checked in-strip above-before below-before p,
+    below-after g s work k x y checked in-strip above-before below-before p,
+  )
 
   -- while the table is renewed, and once it is filled
-  pub before-partly : (bound : ℕ) → Partly g s k bound work → BeforeMark s reaches work k x y
-  before-partly bound partly =
-      before-mark (λ p. rw (partly .cell (x′ p) (y′ p) (in-table p .0) (in-table p .1)) (cell-limit g _ (x′ p) (y′ p) s work (ready .checked)))
+  pub gain-partly : (bound : ℕ) → Partly g s k bound work → GainAsked (s .weights) work k x y
+  gain-partly bound partly =
+      gain-asked (λ p. rw (partly .cell (x′ p) (y′ p) (in-table p .0) (in-table p .1)) (cell-limit g _ (x′ p) (y′ p) s work checked))
 
-  pub before-filled : Filled g s 0 work → BeforeMark s reaches work k x y
-  before-filled filled =
-      before-mark (λ p. rw (filled .cell (x′ p) (y′ p) (in-table p .0) (in-table p .1)) (cell-limit g 0 (x′ p) (y′ p) s work (ready .checked)))
+  gain-filled : Filled g s 0 work → GainAsked (s .weights) work k x y
+  gain-filled filled =
+      gain-asked (λ p. rw (filled .cell (x′ p) (y′ p) (in-table p .0) (in-table p .1)) (cell-limit g 0 (x′ p) (y′ p) s work checked))
+
+  -- and then the mark may be tried at a narrow gap
+  pub before-filled : g ≤ mostGap → Filled g s 0 work → BeforeMark g s work k x y
+  before-filled narrow filled = record {
+    room = record {
+      same-lengths = checked .same-lengths;
+      places-good = checked .places-good;
+      gap-narrow = narrow;
+      in-strip = in-strip;
+      above-before = above-before;
+      below-before = below-before;
+    };
+    gain = gain-filled filled;
+  }

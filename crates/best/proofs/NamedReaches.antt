@@ -1,4 +1,4 @@
--- The reach of a name is the right end of the label that it names.
+-- The reach of a name is the right end of the label that it names, with the gap.
 -- The name of a label of mark k is 2k + 2 or 2k + 3: half of it less 1 is k again, and its parity is the direction. So the reaches of the
 -- two names after mark k is placed are the reaches that the walk holds.
 use mathlib.Core.Path.{_≡_, refl, sym, _∙_, ap}
@@ -64,13 +64,13 @@ module _ (g : ℕ) (s : Strip) (k : ℕ) where
   below-named y (at below d) = reach-named d
 
 -- the list has the reaches of the first n names
-abbrev pub ReachesBelow : List ℤ → List ℕ → List ℕ → ℕ → Type 0
-ReachesBelow zs ls reaches n = (name : ℕ) → name < n → getD reaches name 0 ≡ reachNamed 0 zs ls name
+abbrev pub ReachesBelow : ℕ → List ℤ → List ℕ → List ℕ → ℕ → Type 0
+ReachesBelow g zs ls reaches n = (name : ℕ) → name < n → getD reaches name 0 ≡ reachNamed g zs ls name
 
 -- storing the reach of the next name
-pub one-more-reach : (zs : List ℤ) (ls reaches : List ℕ) (n r : ℕ) → n < length reaches → ReachesBelow zs ls reaches n
-    → r ≡ reachNamed 0 zs ls n → ReachesBelow zs ls (set reaches n r) (n + 1)
-one-more-reach zs ls reaches n r inside known e =
+pub one-more-reach : (g : ℕ) (zs : List ℤ) (ls reaches : List ℕ) (n r : ℕ) → n < length reaches → ReachesBelow g zs ls reaches n
+    → r ≡ reachNamed g zs ls n → ReachesBelow g zs ls (set reaches n r) (n + 1)
+one-more-reach g zs ls reaches n r inside known e =
     λ name h.
     ⊎-elim
     (λ (l : name < n). getD-set-other reaches n name r 0 (omega arith) ∙ known name l)

@@ -38,32 +38,34 @@ pub fn last_after(on_side: bool, k: usize, p: Position, last: usize) -> usize
     last
 }
 
-// The reach, as a dot, of a side whose last label has this name.
-fn reach_of(places: &[i16], lengths: &[u8], name: usize) -> u16
-    requires { ⌜ Known (now places) (now lengths) name ⌝ }
-    ensures { λ r. ⌜ r ≡ reachNamed 0 (now (places .entry)) (now (lengths .entry)) name ⌝ }
+// The reach, as a dot, of a side whose last label has this name: the label's right end with the gap, which counts here and nowhere else.
+pub fn reach_of(places: &[i16], lengths: &[u8], gap: u8, name: usize) -> u16
+    requires { ⌜ Known gap (now places) (now lengths) name ⌝ }
+    ensures { λ r. ⌜ r ≡ reachNamed gap (now (places .entry)) (now (lengths .entry)) name ⌝ }
 {
     if name < 2 {
         return dot_of(EMPTY_REACH);
     }
     let i = name / 2 - 1;
     let place = dot_of(places[i]);
-    if name % 2 == 0 {
-        return place;
-    }
-    place + lengths[i] as u16
+    let end = if name % 2 == 0 {
+        place
+    } else {
+        place + lengths[i] as u16
+    };
+    end + gap as u16
 }
 
 // Puts the reach of every name into a list, so that the loops of the table look it up.
-pub fn set_reaches(places: &[i16], lengths: &[u8], reaches: &mut [u16])
-    requires { ⌜ Known (now places) (now lengths) 0 ⌝
+pub fn set_reaches(places: &[i16], lengths: &[u8], gap: u8, reaches: &mut [u16])
+    requires { ⌜ Known gap (now places) (now lengths) 0 ⌝
         ∗ ⌜ namesBefore (length (now places)) ≤ length (now reaches) ⌝
         ∗ ⌜ length (now places) ≤ mostShort ⌝ }
-    ensures { λ _. ⌜ Reaches (now (places .entry)) (now (lengths .entry)) (now (reaches .exit)) ⌝ }
+    ensures { λ _. ⌜ Reaches gap (now (places .entry)) (now (lengths .entry)) (now (reaches .exit)) ⌝ }
 {
     let mut name = 0;
     while name < 2 * places.len() + 2 {
-        reaches[name] = reach_of(places, lengths, name);
+        reaches[name] = reach_of(places, lengths, gap, name);
         name += 1;
     }
 }

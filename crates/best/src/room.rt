@@ -1,4 +1,5 @@
 // Whether a label has room beside the last labels of the two sides.
+use crate::name::reach_of;
 use crate::position::Position;
 use crate::position::is_above;
 use crate::position::is_below;
@@ -25,7 +26,7 @@ fn begin_of(place: u16, length: u16, p: Position) -> u16
     place
 }
 
-// Whether a label that begins at `begin` overlaps nothing on a side that reaches to `reach`: it may touch.
+// Whether a label that begins at `begin` overlaps nothing on a side that reaches to `reach`: it may begin right there.
 fn is_clear(reach: u16, begin: u16) -> bool
     ensures { λ r. ⌜ r ≡ leb reach begin ⌝ }
 {
@@ -39,21 +40,21 @@ fn is_clear(reach: u16, begin: u16) -> bool
 pub fn has_room(
     places: &[i16],
     lengths: &[u8],
-    reaches: &[u16],
+    gap: u8,
     k: usize,
     p: Position,
     above: usize,
     below: usize,
 ) -> bool
-    requires { ⌜ RoomAsked (now places) (now lengths) (now reaches) k above below ⌝ }
-    ensures { λ r. ⌜ r ≡ roomAt 0 (strip (now (places .entry)) (now (lengths .entry)) []) k above below (positionOf p) ⌝ }
+    requires { ⌜ RoomAsked gap (now places) (now lengths) k above below ⌝ }
+    ensures { λ r. ⌜ r ≡ roomAt gap (strip (now (places .entry)) (now (lengths .entry)) []) k above below (positionOf p) ⌝ }
 {
     let begin = begin_of(dot_of(places[k]), lengths[k] as u16, p);
     if is_above(p) {
-        return is_clear(reaches[above], begin);
+        return is_clear(reach_of(places, lengths, gap, above), begin);
     }
     if is_below(p) {
-        return is_clear(reaches[below], begin);
+        return is_clear(reach_of(places, lengths, gap, below), begin);
     }
     true
 }

@@ -16,11 +16,11 @@ ghost use Rattle.geometry.specs.Strip.{strip};
 ghost use Rattle.best.specs.Best.{workNamed};
 ghost use Rattle.best.specs.inner.Positions.{positionOf};
 ghost use Rattle.best.specs.inner.Worth.{earnedBy};
-ghost use Rattle.best.specs.inner.Names.{names, namesBefore};
+ghost use Rattle.best.specs.inner.Names.{names, namesBefore, AtEveryGap};
 ghost use Rattle.best.specs.inner.Checked.{Ready};
 ghost use Rattle.best.specs.inner.Table.{cellOf, Filled, Renewing, Renewed};
-ghost use Rattle.best.specs.inner.Trial.{GainAsked, BeforeMark, gainAt};
-ghost use Rattle.best.specs.inner.Row.{RowOf, CellAsked, cellBy};
+ghost use Rattle.best.specs.inner.Trial.{GainAsked, gainAt};
+ghost use Rattle.best.specs.inner.Row.{RowAsked, RowOf, CellAsked, cellBy};
 
 // What mark k, counted from 0, earns at p.
 pub fn earned(weights: &[u16], k: usize, p: Position) -> u16
@@ -54,8 +54,9 @@ fn row_of(
     k: usize,
     above: usize,
 ) -> Row
-    requires { ⌜ BeforeMark (strip (now places) (now lengths) (now weights)) (now reaches) (now work) k above 0 ⌝ }
-    ensures { λ r. ⌜ RowOf (strip (now (places .entry)) (now (lengths .entry)) (now (weights .entry))) (now (work .entry)) k above r ⌝ }
+    requires { ⌜ RowAsked (strip (now places) (now lengths) (now weights)) (now reaches) (now work) k above ⌝ }
+    ensures { λ r. ⌜ RowOf (strip (now (places .entry)) (now (lengths .entry)) (now (weights .entry)))
+        (now (reaches .entry)) (now (work .entry)) k above r ⌝ }
 {
     let reach = reaches[above];
     let place = dot_of(places[k]);
@@ -98,7 +99,7 @@ fn renew_row(
     requires { ⌜ Renewing (strip (now places) (now lengths) (now weights)) (now reaches) (now work) k (above * names) ⌝ ∗ ⌜ above < namesBefore k ⌝ }
     ensures { λ _. ⌜ Renewed
         (strip (now (places .entry)) (now (lengths .entry)) (now (weights .entry)))
-        k (suc above * names) (now (work .entry)) (now (work .exit)) ⌝ }
+        (now (reaches .entry)) k (suc above * names) (now (work .entry)) (now (work .exit)) ⌝ }
 {
     let row = row_of(places, lengths, weights, reaches, work, k, above);
     let mut below = 0;
@@ -120,7 +121,7 @@ fn renew(
     requires { ⌜ Renewing (strip (now places) (now lengths) (now weights)) (now reaches) (now work) k 0 ⌝ }
     ensures { λ _. ⌜ Renewed
         (strip (now (places .entry)) (now (lengths .entry)) (now (weights .entry)))
-        k (namesBefore k * names) (now (work .entry)) (now (work .exit)) ⌝ }
+        (now (reaches .entry)) k (namesBefore k * names) (now (work .entry)) (now (work .exit)) ⌝ }
 {
     let mut above = 0;
     while above < 2 * k + 2 {
@@ -132,7 +133,8 @@ fn renew(
 // The table, from the last mark to the first.
 pub fn fill(places: &[i16], lengths: &[u8], weights: &[u16], reaches: &[u16], work: &mut [u32])
     requires { ⌜ Ready (strip (now places) (now lengths) (now weights)) (now reaches) (now work) ⌝ }
-    ensures { λ _. ⌜ Filled 0 (strip (now (places .entry)) (now (lengths .entry)) (now (weights .entry))) 0 (now (work .exit)) ⌝
+    ensures { λ _. ⌜ AtEveryGap (strip (now (places .entry)) (now (lengths .entry)) (now (weights .entry))) (now (reaches .entry))
+        (λ g. Filled g (strip (now (places .entry)) (now (lengths .entry)) (now (weights .entry))) 0 (now (work .exit))) ⌝
         ∗ ⌜ drop workNamed (now (work .exit)) ≡ drop workNamed (now (work .entry)) ⌝ }
 {
     work::clear(work);

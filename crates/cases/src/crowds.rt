@@ -1,7 +1,7 @@
 // Strips on which several marks are left out, and the best pass must list them heaviest first.
-use crate::left_out;
-use crate::lists;
-use crate::tally;
+use agreed::left_out;
+use agreed::lists;
+use agreed::tally;
 
 // Whether a list begins with these three numbers, and is as it was behind them.
 fn is_three(list: &[u16; 12], a: u16, b: u16, c: u16) -> bool {
@@ -30,6 +30,7 @@ fn leaves_out(
         places,
         lengths,
         weights,
+        0,
         &mut positions,
         &mut left_out,
         &mut work,
@@ -50,6 +51,7 @@ fn crowd_leaves_out(agreed: u32, case: u32, weights: &[u16; 8], sum: u32) -> u32
         &[0, 1, 2, 3, 4, 5, 6, 7],
         &[10; 8],
         weights,
+        0,
         &mut positions,
         &mut left_out,
         &mut work,

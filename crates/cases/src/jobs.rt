@@ -1,7 +1,7 @@
 // Job bytes: strip 14, strip 11's job with each of its truncations, and each boundary of the reader and the writer.
 ghost use Prim.Native.Nat.{_≤_};
-use crate::lists;
-use crate::tally;
+use agreed::lists;
+use agreed::tally;
 
 // Strip 11.
 pub const STRIP11: [u8; 26] =

@@ -3,7 +3,7 @@ ghost use Prim.Native.Nat.{_≤_};
 ghost use lib.ListN.{length};
 ghost use mathlib.Core.Path.{_≡_};
 use crate::jobs;
-use crate::tally;
+use agreed::tally;
 use listing::TEXT_MOST;
 
 // The listing of a job must be these bytes.
@@ -25,7 +25,7 @@ fn strips(agreed: u32) -> u32 {
         agreed,
         401,
         &jobs::STRIP11,
-        b"marks 5\nfull none\nslide fits\nbest 36 of 38\nout 2\n",
+        b"marks 5\nfull none\nslide none\nbest 36 of 38\nout 2\n",
     );
     let b = gives(
         a,

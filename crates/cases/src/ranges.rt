@@ -5,12 +5,7 @@ ghost use mathlib.Core.Path.{_≡_};
 ghost use Rattle.geometry.specs.Strip.{mostMarks};
 use crate::passes;
 use crate::passes::TOO_MANY;
-use crate::tally;
-
-fn best_number(places: &[i16], lengths: &[u8], weights: &[u16]) -> u8 {
-    let got = passes::best_answer(places, lengths, weights);
-    got.number
-}
+use agreed::tally;
 
 // More bytes than any job has.
 const ANY_JOB: usize = 30000;
@@ -21,7 +16,8 @@ fn writer_number(places: &[i16], lengths: &[u8], weights: &[u16]) -> u8 {
     got.number
 }
 
-// What the four calls must give for these lists: `small` for slide and best, which take 60 marks, `large` for full and the writer.
+// What the four calls must give for these lists, at gap 0: `small` for slide and best, which take 60 marks, `large` for full and the
+// writer.
 fn all_give(
     agreed: u32,
     case: u32,
@@ -31,20 +27,8 @@ fn all_give(
     small: u8,
     large: u8,
 ) -> u32 {
-    let a = tally::same_byte(
-        agreed,
-        case,
-        passes::full_number(places, lengths, weights),
-        large,
-    );
-    let b = tally::same_byte(
-        a,
-        case,
-        passes::slide_number(places, lengths, weights),
-        small,
-    );
-    let c = tally::same_byte(b, case, best_number(places, lengths, weights), small);
-    tally::same_byte(c, case, writer_number(places, lengths, weights), large)
+    let a = passes::all_give(agreed, case, places, lengths, weights, 0, small, large);
+    tally::same_byte(a, case, writer_number(places, lengths, weights), large)
 }
 
 // One mark.

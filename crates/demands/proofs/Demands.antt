@@ -25,18 +25,18 @@ slide-zero-or-11 false n e = inr e
 pub demand-1 : Demand1
 demand-1 =
     record {
-      full-refuses = λ s lent left number r. full-refused s r lent left number;
+      full-refuses = λ s gap lent left number r. full-refused s gap r lent left number;
       full-answers = answers;
-      full-at-11 = λ s lent left number call _ eleven. none-listed s lent left number call eleven;
-      full-clears = λ s lent left number call e. rw e at (call .work-is);
-      slide-refuses = λ s lent left number r. slide-refused s r lent left number;
-      slide-answers = λ s lent left number call e. slide-zero-or-11 (slidesWhole 0 (marksOf s)) number (rw e at (call .number-is));
-      slide-at-11 = λ s lent left number call e eleven.
+      full-at-11 = λ s gap lent left number call _ eleven. none-listed s gap lent left number call eleven;
+      full-clears = λ s gap lent left number call e. rw e at (call .work-is);
+      slide-refuses = λ s gap lent left number r. slide-refused s gap r lent left number;
+      slide-answers = λ s gap lent left number call e. slide-zero-or-11 (slidesWhole gap (marksOf s)) number (rw e at (call .number-is));
+      slide-at-11 = λ s gap lent left number call e eleven.
           let same = call .where-refused (λ zero. omega arith) in
           (same .sides-unchanged, same .edges-unchanged);
-      slide-clears = λ s lent left number call e. rw e at (call .work-is);
-      best-refuses = λ s lent left answer r. best-refused s r lent left answer;
-      best-clears = λ s lent left answer call e. (rw e at (call .number-is), call .where-accepted e .work-cleared);
+      slide-clears = λ s gap lent left number call e. rw e at (call .work-is);
+      best-refuses = λ s gap lent left answer r. best-refused s gap r lent left answer;
+      best-clears = λ s gap lent left answer call e. (rw e at (call .number-is), call .where-accepted e .work-cleared);
       read-refuses = λ job lent left answer r call. not-read job lent left answer call r;
       read-answers = λ job lent left answer s call. strip-read job lent left answer call s;
       write-refuses = λ s lent left answer r call. not-written s lent left answer call r;
@@ -49,8 +49,8 @@ demand-2 =
     record {
       full-places = first-placed;
       full-none-exactly = none-exactly;
-      slide-places = λ s lent left number call. call .where-placed;
-      slide-none-exactly = λ s lent left number call. call .none-exactly;
+      slide-places = λ s gap lent left number call. call .where-placed;
+      slide-none-exactly = λ s gap lent left number call. call .none-exactly;
       job-there-and-back = λ job lent left read output copy made bytes call zero write.
           job-back job bytes lent left read call zero output copy made write;
       strip-there-and-back = λ s output job made lent left read call zero reading.
@@ -62,8 +62,8 @@ pub demand-3 : Demand3
 demand-3 =
     record {
       best-chooses = best-chosen;
-      best-labels-all-where-full-fits = λ s lent left answer fullEntry fullExit number call zero full-call passed.
-          best-and-full s lent left answer call zero fullEntry fullExit number full-call passed;
+      best-labels-all-where-full-fits = λ s gap lent left answer fullEntry fullExit number call zero full-call passed.
+          best-and-full s gap lent left answer call zero fullEntry fullExit number full-call passed;
       at-most-two-unbeaten = λ s gap k good one few. at-most-two-unbeaten s good gap k few one;
       begins-unbeaten = λ s gap k good few ps placed. fitting-begins-unbeaten s good gap k few ps placed;
     }

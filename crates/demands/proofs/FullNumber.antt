@@ -44,35 +44,35 @@ none-by-11 accepted (some ps) other e = absurd (omega arith)
 none-by-11 (refused r) o other e = absurd (other e)
 
 -- a call of the full pass
-module _ (s : Strip) (lent left : FullLent) (number : ℕ) (call : FullContract s lent left number) where
+module _ (s : Strip) (gap : ℕ) (lent left : FullLent) (number : ℕ) (call : FullContract s gap lent left number) where
   -- the first placing, if there is one
   abbrev first : Option (List Position)
-  first = firstPlacing 0 (marksOf s)
+  first = firstPlacing gap (marksOf s)
 
   -- what number 0 and number 11 say of the strip
-  pub fits-at-0 : number ≡ 0 → Fits (fullChecks s lent) first
-  fits-at-0 zero = fits-by-0 (fullChecks s lent) first (sym (call .number-is) ∙ zero)
+  pub fits-at-0 : number ≡ 0 → Fits (fullChecks s gap lent) first
+  fits-at-0 zero = fits-by-0 (fullChecks s gap lent) first (sym (call .number-is) ∙ zero)
 
-  pub none-at-11 : number ≡ refusalNumber noPlacing → (fullChecks s lent ≡ accepted) × (first ≡ none)
+  pub none-at-11 : number ≡ refusalNumber noPlacing → (fullChecks s gap lent ≡ accepted) × (first ≡ none)
   none-at-11 eleven =
-      let checks = pass-not-11 mostMarks s (length (lent .positions)) workNamed (length (lent .work)) in
-      none-by-11 (fullChecks s lent) first checks (sym (call .number-is) ∙ eleven)
+      let checks = pass-not-11 mostMarks s gap (length (lent .positions)) workNamed (length (lent .work)) in
+      none-by-11 (fullChecks s gap lent) first checks (sym (call .number-is) ∙ eleven)
 
   -- at 0 the first placing is listed, at 11 nothing is
-  pub first-placed : number ≡ 0 → FirstPlaced s lent left
+  pub first-placed : number ≡ 0 → FirstPlaced s gap lent left
   first-placed zero =
       let f = fits-at-0 zero in
       record {
         placing = f .placing;
         listed = rw (f .passed, f .is-first) at (call .positions-are);
-        is-placing = found-placing 0 (marksOf s) (f .placing) (f .is-first);
-        is-first = λ other placed. found-is-first 0 (marksOf s) (f .placing) other (f .is-first) placed;
+        is-placing = found-placing gap (marksOf s) (f .placing) (f .is-first);
+        is-first = λ other placed. found-is-first gap (marksOf s) (f .placing) other (f .is-first) placed;
       }
 
   pub none-listed : number ≡ refusalNumber noPlacing → left .positions ≡ lent .positions
   none-listed eleven = rw (none-at-11 eleven .0, none-at-11 eleven .1) at (call .positions-are)
 
-  module _ (passed : fullChecks s lent ≡ accepted) where
+  module _ (passed : fullChecks s gap lent ≡ accepted) where
     -- past the checks the number is 0 or 11
     pub answers : (number ≡ 0) ⊎ (number ≡ refusalNumber noPlacing)
     answers = zero-or-11 first number (rw passed at (call .number-is))
@@ -84,14 +84,14 @@ module _ (s : Strip) (lent left : FullLent) (number : ℕ) (call : FullContract 
       λ found. ⊎-elim (λ zero. zero) (λ eleven. absurd (found (none-at-11 eleven .1))) answers,
     )
 
-    pub none-exactly : (number ≡ refusalNumber noPlacing) ↔ ((ps : List Position) → IsPlacing 0 (marksOf s) ps → ⊥)
+    pub none-exactly : (number ≡ refusalNumber noPlacing) ↔ ((ps : List Position) → IsPlacing gap (marksOf s) ps → ⊥)
     none-exactly = (
       λ eleven ps placed.
-          let r = placing-found 0 (marksOf s) ps (placed .is-free) (placed .labels-all) in
+          let r = placing-found gap (marksOf s) ps (placed .is-free) (placed .labels-all) in
           never-none (r .0) (sym (r .1) ∙ none-at-11 eleven .1),
       λ unplaced.
           ⊎-elim
-          (λ zero. absurd (unplaced (fits-at-0 zero .placing) (found-placing 0 (marksOf s) (fits-at-0 zero .placing) (fits-at-0 zero .is-first))))
+          (λ zero. absurd (unplaced (fits-at-0 zero .placing) (found-placing gap (marksOf s) (fits-at-0 zero .placing) (fits-at-0 zero .is-first))))
           (λ eleven. eleven)
           answers,
     )

@@ -1,7 +1,7 @@
--- The three demands, whole and in their order. Each record says what holds for every strip, every lent list and every answer that meets
--- the contract of its call; proofs/Demands.antt proves all of it from the contracts and the theorems about the definitions. `lent` are
--- the lent lists at entry and `left` the same lists at exit. "Accepted" is said of the checks 6 to 10: "The first check that is not
--- passed decides."
+-- The three demands, whole and in their order. Each record says what holds for every strip, every gap, every lent list and every answer
+-- that meets the contract of its call; proofs/Demands.antt proves all of it from the contracts and the theorems about the definitions.
+-- `lent` are the lent lists at entry and `left` the same lists at exit. "Accepted" is said of the checks 6 to 10, among which a pass
+-- tests 12, the gap, right after 6: "The first check that is not passed decides."
 use Prim.Native.Nat.{ℕ, _≤_}
 use mathlib.Core.Path.{_≡_}
 use mathlib.Core.Logic.{_⊎_, _↔_}
@@ -66,36 +66,36 @@ pub record JobWritten (job lent left : List ℕ) (answer : Written) : Type 0 whe
 -- means that these functions are proved. "Each public call tests what it is given and refuses by a number of document 01, with sum and
 -- count 0 and lent memory as that document lays down."
 pub record Demand1 : Type 0 where
-  -- the full pass, 6 to 10: "Every refusal gives its number, .., and changes no lent memory, but for the work area at 11"
-  pub full-refuses : (s : Strip) (lent left : FullLent) (number : ℕ) (r : Refusal) → FullContract s lent left number
-      → fullChecks s lent ≡ refused r → (number ≡ refusalNumber r) × (left ≡ lent)
+  -- the full pass, 6 to 10 and 12: "Every refusal gives its number, .., and changes no lent memory, but for the work area at 11"
+  pub full-refuses : (s : Strip) (gap : ℕ) (lent left : FullLent) (number : ℕ) (r : Refusal) → FullContract s gap lent left number
+      → fullChecks s gap lent ≡ refused r → (number ≡ refusalNumber r) × (left ≡ lent)
   -- past them "An accepted call gives number 0", and the one refusal that is left is "at the end: 11 no placing exists"
-  pub full-answers : (s : Strip) (lent left : FullLent) (number : ℕ) → FullContract s lent left number
-      → fullChecks s lent ≡ accepted → (number ≡ 0) ⊎ (number ≡ refusalNumber noPlacing)
+  pub full-answers : (s : Strip) (gap : ℕ) (lent left : FullLent) (number : ℕ) → FullContract s gap lent left number
+      → fullChecks s gap lent ≡ accepted → (number ≡ 0) ⊎ (number ≡ refusalNumber noPlacing)
   -- which leaves the positions as they were
-  pub full-at-11 : (s : Strip) (lent left : FullLent) (number : ℕ) → FullContract s lent left number
-      → fullChecks s lent ≡ accepted → number ≡ refusalNumber noPlacing → left .positions ≡ lent .positions
+  pub full-at-11 : (s : Strip) (gap : ℕ) (lent left : FullLent) (number : ℕ) → FullContract s gap lent left number
+      → fullChecks s gap lent ≡ accepted → number ≡ refusalNumber noPlacing → left .positions ≡ lent .positions
   -- "Once checks 6 to 10 are passed, the named part of the work area ends as zeros, also at refusal 11; the rest of it is unchanged."
-  pub full-clears : (s : Strip) (lent left : FullLent) (number : ℕ) → FullContract s lent left number
-      → fullChecks s lent ≡ accepted → left .work ≡ cleared full.workNamed (pos 0) (lent .work)
-  -- the slide pass, 6 to 10: the number, and nothing changed
-  pub slide-refuses : (s : Strip) (lent left : SlideLent) (number : ℕ) (r : Refusal) → SlideContract s lent left number
-      → slideChecks s lent ≡ refused r → (number ≡ refusalNumber r) × (left ≡ lent)
+  pub full-clears : (s : Strip) (gap : ℕ) (lent left : FullLent) (number : ℕ) → FullContract s gap lent left number
+      → fullChecks s gap lent ≡ accepted → left .work ≡ cleared full.workNamed (pos 0) (lent .work)
+  -- the slide pass, 6 to 10 and 12: the number, and nothing changed
+  pub slide-refuses : (s : Strip) (gap : ℕ) (lent left : SlideLent) (number : ℕ) (r : Refusal) → SlideContract s gap lent left number
+      → slideChecks s gap lent ≡ refused r → (number ≡ refusalNumber r) × (left ≡ lent)
   -- past them 0 or 11
-  pub slide-answers : (s : Strip) (lent left : SlideLent) (number : ℕ) → SlideContract s lent left number
-      → slideChecks s lent ≡ accepted → (number ≡ 0) ⊎ (number ≡ refusalNumber noPlacing)
+  pub slide-answers : (s : Strip) (gap : ℕ) (lent left : SlideLent) (number : ℕ) → SlideContract s gap lent left number
+      → slideChecks s gap lent ≡ accepted → (number ≡ 0) ⊎ (number ≡ refusalNumber noPlacing)
   -- 11 leaves both answer lists as they were
-  pub slide-at-11 : (s : Strip) (lent left : SlideLent) (number : ℕ) → SlideContract s lent left number
-      → slideChecks s lent ≡ accepted → number ≡ refusalNumber noPlacing → (left .sides ≡ lent .sides) × (left .edges ≡ lent .edges)
+  pub slide-at-11 : (s : Strip) (gap : ℕ) (lent left : SlideLent) (number : ℕ) → SlideContract s gap lent left number
+      → slideChecks s gap lent ≡ accepted → number ≡ refusalNumber noPlacing → (left .sides ≡ lent .sides) × (left .edges ≡ lent .edges)
   -- the named part of the work area ends as zeros, also at 11
-  pub slide-clears : (s : Strip) (lent left : SlideLent) (number : ℕ) → SlideContract s lent left number
-      → slideChecks s lent ≡ accepted → left .work ≡ cleared slide.workNamed 0 (lent .work)
-  -- the best pass, 6 to 10: the number "with sum, count and length 0", and nothing changed
-  pub best-refuses : (s : Strip) (lent left : BestLent) (answer : Best) (r : Refusal) → BestContract s lent left answer
-      → bestChecks s lent ≡ refused r → (answer .number ≡ refusalNumber r) × (answer .sum ≡ 0) × (answer .count ≡ 0) × (left ≡ lent)
+  pub slide-clears : (s : Strip) (gap : ℕ) (lent left : SlideLent) (number : ℕ) → SlideContract s gap lent left number
+      → slideChecks s gap lent ≡ accepted → left .work ≡ cleared slide.workNamed 0 (lent .work)
+  -- the best pass, 6 to 10 and 12: the number "with sum, count and length 0", and nothing changed
+  pub best-refuses : (s : Strip) (gap : ℕ) (lent left : BestLent) (answer : Best) (r : Refusal) → BestContract s gap lent left answer
+      → bestChecks s gap lent ≡ refused r → (answer .number ≡ refusalNumber r) × (answer .sum ≡ 0) × (answer .count ≡ 0) × (left ≡ lent)
   -- past them always 0, and the named part of the work area ends as zeros
-  pub best-clears : (s : Strip) (lent left : BestLent) (answer : Best) → BestContract s lent left answer
-      → bestChecks s lent ≡ accepted → (answer .number ≡ 0) × (left .work ≡ cleared best.workNamed 0 (lent .work))
+  pub best-clears : (s : Strip) (gap : ℕ) (lent left : BestLent) (answer : Best) → BestContract s gap lent left answer
+      → bestChecks s gap lent ≡ accepted → (answer .number ≡ 0) × (left .work ≡ cleared best.workNamed 0 (lent .work))
   -- the reader refuses exactly what `readInto` refuses: 1 to 5 for the job, 9 for "a lent list shorter than the count"
   pub read-refuses : (job : List ℕ) (lent left : Strip) (answer : Read) (r : Refusal) → ReadContract job lent left answer
       → readInto lent job ≡ refusal r → NotRead (refusalNumber r) lent left answer
@@ -108,29 +108,29 @@ pub record Demand1 : Type 0 where
       → jobFor (length lent) s ≡ given job → JobWritten job lent left answer
 
 -- what the full pass lists where it gives 0: a placing in the used part of the position list, and no placing comes before it
-pub record FirstPlaced (s : Strip) (lent left : FullLent) : Type 0 where
+pub record FirstPlaced (s : Strip) (gap : ℕ) (lent left : FullLent) : Type 0 where
   pub placing : List Position
   pub listed : left .positions ≡ written (map code placing) (lent .positions)
-  pub is-placing : IsPlacing 0 (marksOf s) placing
-  pub is-first : (other : List Position) → IsPlacing 0 (marksOf s) other → NotAfter placing other
+  pub is-placing : IsPlacing gap (marksOf s) placing
+  pub is-first : (other : List Position) → IsPlacing gap (marksOf s) other → NotAfter placing other
 
 -- Demand 2. "Full gives the first placing in four positions, slide one with sliding labels; each says 11 exactly when its model has none,
 -- for slide even at fractions of a dot. Job bytes round-trip both ways."
 pub record Demand2 : Type 0 where
   -- "Of all placings it is the first, comparing from mark 1 on, with positions ranked 2, 3, 1, 4."
-  pub full-places : (s : Strip) (lent left : FullLent) (number : ℕ) → FullContract s lent left number
-      → number ≡ 0 → FirstPlaced s lent left
+  pub full-places : (s : Strip) (gap : ℕ) (lent left : FullLent) (number : ℕ) → FullContract s gap lent left number
+      → number ≡ 0 → FirstPlaced s gap lent left
   -- "11 no placing exists", and only then
-  pub full-none-exactly : (s : Strip) (lent left : FullLent) (number : ℕ) → FullContract s lent left number
-      → fullChecks s lent ≡ accepted
-      → (number ≡ refusalNumber noPlacing) ↔ ((ps : List Position) → IsPlacing 0 (marksOf s) ps → ⊥)
+  pub full-none-exactly : (s : Strip) (gap : ℕ) (lent left : FullLent) (number : ℕ) → FullContract s gap lent left number
+      → fullChecks s gap lent ≡ accepted
+      → (number ≡ refusalNumber noPlacing) ↔ ((ps : List Position) → IsPlacing gap (marksOf s) ps → ⊥)
   -- "a side (0 above, 1 below) and a left edge for each mark", no two labels overlapping, "every label is as far left as it goes"
-  pub slide-places : (s : Strip) (lent left : SlideLent) (number : ℕ) → SlideContract s lent left number
-      → number ≡ 0 → Placed (marksOf s) lent left
+  pub slide-places : (s : Strip) (gap : ℕ) (lent left : SlideLent) (number : ℕ) → SlideContract s gap lent left number
+      → number ≡ 0 → Placed gap (marksOf s) lent left
   -- 11 if no placing exists "whose left edges are whole numbers of nth parts of a dot, for any whole n from 1", and only then
-  pub slide-none-exactly : (s : Strip) (lent left : SlideLent) (number : ℕ) → SlideContract s lent left number
-      → slideChecks s lent ≡ accepted
-      → (number ≡ refusalNumber noPlacing) ↔ ((denominator : ℕ) → 1 ≤ denominator → Slides 0 denominator (marksOf s) → ⊥)
+  pub slide-none-exactly : (s : Strip) (gap : ℕ) (lent left : SlideLent) (number : ℕ) → SlideContract s gap lent left number
+      → slideChecks s gap lent ≡ accepted
+      → (number ≡ refusalNumber noPlacing) ↔ ((denominator : ℕ) → 1 ≤ denominator → Slides gap denominator (marksOf s) → ⊥)
   -- a job that the reader accepts, read and written back, has the same bytes
   pub job-there-and-back : (job : List ℕ) (lent left : Strip) (read : Read) (output copy : List ℕ) (made : Written) → Bytes job
       → ReadContract job lent left read → read .number ≡ 0 → WriteContract (firstMarks (read .count) left) output copy made
@@ -141,15 +141,15 @@ pub record Demand2 : Type 0 where
       → length (s .places) ≤ shortest lent → StripRead s lent left read
 
 -- what the best pass lists where it gives 0
-pub record BestChosen (s : Strip) (lent left : BestLent) (answer : Best) : Type 0 where
+pub record BestChosen (s : Strip) (gap : ℕ) (lent left : BestLent) (answer : Best) : Type 0 where
   -- "What the best pass lists is the choice in the used part of its position list."
   pub choice : List Position
   pub listed : left .positions ≡ written (map code choice) (lent .positions)
   -- "it is overlap-free if no two of its labels overlap"; so it has an entry for each mark
-  pub overlap-free : free 0 (marksOf s) choice ≡ true
+  pub overlap-free : free gap (marksOf s) choice ≡ true
   -- "its sum is that of their weights", and no overlap-free choice has a greater one
   pub sum-earned : answer .sum ≡ sumOf (marksOf s) choice
-  pub greatest : (other : List Position) → free 0 (marksOf s) other ≡ true → sumOf (marksOf s) other ≤ answer .sum
+  pub greatest : (other : List Position) → free gap (marksOf s) other ≡ true → sumOf (marksOf s) other ≤ answer .sum
   -- "the list of left-out mark numbers and its length": it is the left-out list of the choice
   pub out-written : left .left-out ≡ written (leftOut (s .weights) choice) (lent .left-out)
   pub out-counted : answer .count ≡ length (leftOut (s .weights) choice)
@@ -159,9 +159,9 @@ pub record BestChosen (s : Strip) (lent left : BestLent) (answer : Best) : Type 
   pub out-ordered : HeaviestFirst (s .weights) (leftOut (s .weights) choice)
   pub out-only : (other : List ℕ) → ListsLeftOut choice other → HeaviestFirst (s .weights) other → other ≡ leftOut (s .weights) choice
 
--- both passes on one strip, past their checks; `number` is the full pass's, which "finds a fit if it gives 0, and none if it gives 11"
-pub record BestAndFull (s : Strip) (lent left : BestLent) (answer : Best) (number : ℕ) : Type 0 where
-  pub chosen : BestChosen s lent left answer
+-- both passes on one strip at one and the same gap, past their checks; `number` is the full pass's, which "finds a fit if it gives 0, and none if it gives 11"
+pub record BestAndFull (s : Strip) (gap : ℕ) (lent left : BestLent) (answer : Best) (number : ℕ) : Type 0 where
+  pub chosen : BestChosen s gap lent left answer
   -- "The weight of all marks is the sum of the weight list.": it is the best sum exactly when the full pass fits
   pub whole-exactly : (answer .sum ≡ sumList (s .weights)) ↔ (number ≡ 0)
   -- and exactly then the choice has a label for each mark
@@ -172,12 +172,12 @@ pub record BestAndFull (s : Strip) (lent left : BestLent) (answer : Best) (numbe
 -- that fits has a placing that begins with an unbeaten part layout."
 pub record Demand3 : Type 0 where
   -- "an overlap-free choice of greatest weight, its sum earned by exactly the listed labels"
-  pub best-chooses : (s : Strip) (lent left : BestLent) (answer : Best) → BestContract s lent left answer
-      → answer .number ≡ 0 → BestChosen s lent left answer
+  pub best-chooses : (s : Strip) (gap : ℕ) (lent left : BestLent) (answer : Best) → BestContract s gap lent left answer
+      → answer .number ≡ 0 → BestChosen s gap lent left answer
   -- "it labels all exactly when full fits", both "taken from calls that pass checks 9 and 10 too"
-  pub best-labels-all-where-full-fits : (s : Strip) (lent left : BestLent) (answer : Best) (fullLent fullLeft : FullLent) (number : ℕ)
-      → BestContract s lent left answer → answer .number ≡ 0 → FullContract s fullLent fullLeft number
-      → fullChecks s fullLent ≡ accepted → BestAndFull s lent left answer number
+  pub best-labels-all-where-full-fits : (s : Strip) (gap : ℕ) (lent left : BestLent) (answer : Best) (fullLent fullLeft : FullLent) (number : ℕ)
+      → BestContract s gap lent left answer → answer .number ≡ 0 → FullContract s gap fullLent fullLeft number
+      → fullChecks s gap fullLent ≡ accepted → BestAndFull s gap lent left answer number
   -- "The count after mark k is the number of different pairs of reaches, .., that no part layout of those k marks beats": at every gap
   pub at-most-two-unbeaten : (s : Strip) (gap k : ℕ) → entry mostMarks s ≡ accepted → 1 ≤ k → k ≤ length (s .places)
       → unbeatenCount gap (take k (marksOf s)) ≤ 2

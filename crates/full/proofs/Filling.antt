@@ -15,58 +15,60 @@ use Rattle.full.specs.inner.Table.{AnyWeights, rowIn, RowsFrom, Ready, F
 use Rattle.full.proofs.Rows.{last-row, row-before, none-kept-first, drop-sets, one-more-row}
 
 -- `reaches` and `count` are the kept part layouts of the mark with index i
-pub record Filling (places : List ℤ) (lengths : List ℕ) (entry work reaches : List ℤ) (count i : ℕ) : Type 0 where
-  pub ready : Ready places lengths entry
+pub record Filling (places : List ℤ) (lengths : List ℕ) (g : ℕ) (entry work reaches : List ℤ) (count i : ℕ) : Type 0 where
+  pub ready : Ready places lengths g entry
   pub inside : i < length places
-  pub counted : AnyWeights places lengths (λ s. Counted (rowIn s i) reaches count)
-  pub rows : AnyWeights places lengths (RowsFrom i work)
+  pub counted : AnyWeights places lengths (λ s. Counted (rowIn g s i) reaches count)
+  pub rows : AnyWeights places lengths (RowsFrom g i work)
   pub rest-kept : drop workNamed work ≡ drop workNamed entry
   pub long : length work ≡ length entry
 
-module _ (places : List ℤ) (lengths : List ℕ) where
+module _ (places : List ℤ) (lengths : List ℕ) (g : ℕ) where
   -- the row before the mark with index i, from the row in hand
   abbrev pub before : ℕ → ℕ → List ℤ → List ℕ
   before k i next =
-      rowBefore (dot (getD places k (pos 0))) (getD lengths k 0) (dot (getD places i (pos 0))) (getD lengths i 0) next
+      rowBefore g (dot (getD places k (pos 0))) (getD lengths k 0) (dot (getD places i (pos 0))) (getD lengths i 0) next
 
   -- the last mark; `work` is the work area after its store
-  pub filling-last : (entry work reaches : List ℤ) (k : ℕ) → Ready places lengths entry → k + 1 ≡ length places
+  pub filling-last : (entry work reaches : List ℤ) (k : ℕ) → Ready places lengths g entry → k + 1 ≡ length places
       → map dot (four reaches) ≡ alike anyReach anyReach → work ≡ sets entry (4 * k) (four reaches)
-      → Filling places lengths work work reaches 4 k
+      → Filling places lengths g work work reaches 4 k
   unfolding countOf
   filling-last entry work reaches k ready last unbounded stored =
       let few = ready .few in
       let roomy = ready .roomy in
       let long : length work ≡ length entry = ap length stored ∙ length-sets entry (4 * k) (four reaches) in
-      let row : AnyWeights places lengths (λ s. map dot (four reaches) ≡ rowIn s k) =
-      λ ws same. unbounded ∙ sym (last-row (strip places lengths ws) (ready .same-lengths) same k last) in
+      let row : AnyWeights places lengths (λ s. map dot (four reaches) ≡ rowIn g s k) =
+      λ ws same. unbounded ∙ sym (last-row g (strip places lengths ws) (ready .same-lengths) same k last) in
       record {
         ready = record {
           same-lengths = ready .same-lengths;
           few = few;
           places-good = ready .places-good;
           lengths-good = ready .lengths-good;
+          gap-narrow = ready .gap-narrow;
           roomy = omega arith;
         };
         inside = omega arith;
         counted = λ ws same. record { reaches-are = row ws same; count-is = ap countOf (sym unbounded ∙ row ws same) };
-        rows = λ ws same. rw stored (one-more-row (strip places lengths ws) entry k reaches (omega arith) (λ j low high. absurd (omega arith)) (row ws same));
+        rows = λ ws same.
+            rw stored (one-more-row g (strip places lengths ws) entry k reaches (omega arith) (λ j low high. absurd (omega arith)) (row ws same));
         rest-kept = refl;
         long = refl;
       }
 
-  module _ (entry work next : List ℤ) (count i : ℕ) (f : Filling places lengths entry work next count i) (reaches : List ℤ) (count′ k : ℕ)
+  module _ (entry work next : List ℤ) (count i : ℕ) (f : Filling places lengths g entry work next count i) (reaches : List ℤ) (count′ k : ℕ)
       (step : k + 1 ≡ i) (kept : Counted (before k i next) reaches count′) where
     -- what was kept for the mark before is its row, counted
-    counted-before : AnyWeights places lengths (λ s. Counted (rowIn s k) reaches count′)
+    counted-before : AnyWeights places lengths (λ s. Counted (rowIn g s k) reaches count′)
     counted-before ws same =
         let inside = f .inside in
         let s = strip places lengths ws in
-        let row = row-before s (f .ready .same-lengths) same k next (omega arith) (rw step (f .counted ws same .reaches-are)) in
+        let row = row-before g s (f .ready .same-lengths) same k next (omega arith) (rw step (f .counted ws same .reaches-are)) in
         rw row at (rw (sym step) at kept)
 
     -- one mark more
-    pub filling-more : (work′ : List ℤ) → work′ ≡ sets work (4 * k) (four reaches) → Filling places lengths entry work′ reaches count′ k
+    pub filling-more : (work′ : List ℤ) → work′ ≡ sets work (4 * k) (four reaches) → Filling places lengths g entry work′ reaches count′ k
     filling-more work′ stored =
         let few = f .ready .few in
         let roomy = f .ready .roomy in
@@ -77,18 +79,19 @@ module _ (places : List ℤ) (lengths : List ℕ) where
           inside = omega arith;
           counted = counted-before;
           rows = λ ws same.
-              rw stored (one-more-row (strip places lengths ws) work k reaches (omega arith) (rw step (f .rows ws same)) (counted-before ws same .reaches-are));
+              let row = counted-before ws same .reaches-are in
+              rw stored (one-more-row g (strip places lengths ws) work k reaches (omega arith) (rw step (f .rows ws same)) row);
           rest-kept = ap (drop workNamed) stored ∙ drop-sets (four reaches) work (4 * k) workNamed (omega arith) ∙ f .rest-kept;
           long = ap length stored ∙ length-sets work (4 * k) (four reaches) ∙ long;
         }
 
     -- a mark that keeps nothing
-    pub filling-stops : (start : List ℤ) → count′ ≡ 0 → drop workNamed entry ≡ drop workNamed start → Filled places lengths start work 0
+    pub filling-stops : (start : List ℤ) → count′ ≡ 0 → drop workNamed entry ≡ drop workNamed start → Filled places lengths g start work 0
     filling-stops start none kept-there =
         let inside = f .inside in
         record {
           first-count = λ some ws same.
-              sym (none-kept-first (strip places lengths ws) (f .ready .same-lengths) same (f .ready .places-good) k (omega arith)
+              sym (none-kept-first g (strip places lengths ws) (f .ready .same-lengths) same (f .ready .places-good) k (omega arith)
               (sym (counted-before ws same .count-is) ∙ none));
           empty-count = λ empty. absurd (omega arith);
           rows = λ some. absurd (some refl);
@@ -96,8 +99,8 @@ module _ (places : List ℤ) (lengths : List ℕ) where
         }
 
   -- the first mark: the table is full
-  pub filling-done : (start entry work reaches : List ℤ) (count i : ℕ) → Filling places lengths entry work reaches count i → i ≡ 0
-      → drop workNamed entry ≡ drop workNamed start → Filled places lengths start work count
+  pub filling-done : (start entry work reaches : List ℤ) (count i : ℕ) → Filling places lengths g entry work reaches count i → i ≡ 0
+      → drop workNamed entry ≡ drop workNamed start → Filled places lengths g start work count
   filling-done start entry work reaches count i f e kept =
       let inside = f .inside in
       record {

@@ -31,7 +31,7 @@ some-passed true false = refl
 some-passed false true = refl
 some-passed false false = refl
 
-module _ (m : Mark) (rest : List Mark) (inside : Inside 0 (m ∷ rest)) where
+module _ (g : ℕ) (m : Mark) (rest : List Mark) (inside : Inside g (m ∷ rest)) where
   -- the reach of a side without labels is inside the coordinates
   empty : Reach emptyReach
   empty = record { some = omega arith; inside = omega arith }
@@ -43,13 +43,13 @@ module _ (m : Mark) (rest : List Mark) (inside : Inside 0 (m ∷ rest)) where
 
   -- a label in a direction leaves something to an empty side
   abbrev kept : Direction → Bool
-  kept d = leb emptyReach (greatest 0 (rightEnd m d + 0) rest)
+  kept d = leb emptyReach (greatest g (rightEnd m d + g) rest)
 
   -- the strip fits exactly if the count is not 0
-  pub fits-by-count : can 0 emptyReach emptyReach (m ∷ rest) ≡ not (eqb (countOf (rowOf 0 m rest)) 0)
+  pub fits-by-count : can g emptyReach emptyReach (m ∷ rest) ≡ not (eqb (countOf (rowOf g m rest)) 0)
   unfolding can countOf
   fits-by-count =
-      let leaves = leaves-by-row emptyReach emptyReach m rest empty empty inside in
+      let leaves = leaves-by-row g emptyReach emptyReach m rest empty empty inside in
       rw (
         leaves above leftward,
         leaves below leftward,
@@ -57,8 +57,8 @@ module _ (m : Mark) (rest : List Mark) (inside : Inside 0 (m ∷ rest)) where
         leaves below rightward,
         room leftward,
         room rightward,
-        kept-test (greatest 0 (rightEnd m leftward + 0) rest),
-        kept-test (greatest 0 (rightEnd m rightward + 0) rest),
+        kept-test (greatest g (rightEnd m leftward + g) rest),
+        kept-test (greatest g (rightEnd m rightward + g) rest),
         some-passed (kept leftward) (kept rightward),
       )
       refl

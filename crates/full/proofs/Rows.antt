@@ -26,33 +26,31 @@ use Rattle.full.specs.inner.Row.{noReach, anyReach, greatest, alike, row
 use Rattle.full.specs.inner.Table.{rowIn, RowsFrom}
 use Rattle.full.proofs.Candidates.{none-beside}
 
--- the row of a mark from the row of the next one, at gap 0
-before : (m n : Mark) (rest : List Mark) (next : List ℤ) → map dot (four next) ≡ rowOf 0 n rest
-    → rowBefore (m .place) (m .labelLength) (n .place) (n .labelLength) next ≡ rowOf 0 m (n ∷ rest)
+-- the row of a mark from the row of the next one
+before : (g : ℕ) (m n : Mark) (rest : List Mark) (next : List ℤ) → map dot (four next) ≡ rowOf g n rest
+    → rowBefore g (m .place) (m .labelLength) (n .place) (n .labelLength) next ≡ rowOf g m (n ∷ rest)
 unfolding greatest
-before m n rest next e =
-    let kept-left : dot (getD next 0 (pos 0)) ≡ greatest 0 (rightEnd n leftward + 0) rest = ap (λ (xs : List ℕ). getD xs 0 0) e in
-    let kept-right : dot (getD next 2 (pos 0)) ≡ greatest 0 (rightEnd n rightward + 0) rest = ap (λ (xs : List ℕ). getD xs 2 0) e in
-    let left-reach : m .place + 0 ≡ m .place = omega arith in
-    let right-reach : m .place + m .labelLength + 0 ≡ m .place + m .labelLength = omega arith in
-    rw (kept-left, kept-right, left-reach, right-reach) refl
+before g m n rest next e =
+    let kept-left : dot (getD next 0 (pos 0)) ≡ greatest g (rightEnd n leftward + g) rest = ap (λ (xs : List ℕ). getD xs 0 0) e in
+    let kept-right : dot (getD next 2 (pos 0)) ≡ greatest g (rightEnd n rightward + g) rest = ap (λ (xs : List ℕ). getD xs 2 0) e in
+    rw (kept-left, kept-right) refl
 
 -- a position that keeps nothing counts 0, and no other does
 not-kept : (x : ℕ) → keptOne x ≡ 0 → x ≡ noReach
 not-kept x = by-eqb x noReach (λ t. _≡_ {A = ℕ} (cond t 0 1) 0 → x ≡ noReach) (λ e z. e) (λ n z. absurd (omega arith))
 
 -- beside a mark that keeps nothing the mark before it keeps nothing
-none-kept-before : (m n : Mark) (rest : List Mark) → 1 ≤ m .place → countOf (rowOf 0 n rest) ≡ 0 → countOf (rowOf 0 m (n ∷ rest)) ≡ 0
+none-kept-before : (g : ℕ) (m n : Mark) (rest : List Mark) → 1 ≤ m .place → countOf (rowOf g n rest) ≡ 0 → countOf (rowOf g m (n ∷ rest)) ≡ 0
 unfolding countOf greatest
-none-kept-before m n rest some e =
-    let left-none : greatest 0 (rightEnd n leftward + 0) rest ≡ noReach = not-kept _ (omega arith) in
-    let right-none : greatest 0 (rightEnd n rightward + 0) rest ≡ noReach = not-kept _ (omega arith) in
-    rw (left-none, right-none, none-beside (rightEnd m leftward + 0) _ _ (omega arith), none-beside (rightEnd m rightward + 0) _ _ (omega arith))
+none-kept-before g m n rest some e =
+    let left-none : greatest g (rightEnd n leftward + g) rest ≡ noReach = not-kept _ (omega arith) in
+    let right-none : greatest g (rightEnd n rightward + g) rest ≡ noReach = not-kept _ (omega arith) in
+    rw (left-none, right-none, none-beside (rightEnd m leftward + g) _ _ (omega arith), none-beside (rightEnd m rightward + g) _ _ (omega arith))
     refl
 
-module _ (s : Strip) (same : length (s .places) ≡ length (s .lengths)) (weighed : length (s .places) ≡ length (s .weights)) where
+module _ (g : ℕ) (s : Strip) (same : length (s .places) ≡ length (s .lengths)) (weighed : length (s .places) ≡ length (s .weights)) where
   -- the last mark leaves no bound
-  pub last-row : (k : ℕ) → k + 1 ≡ length (s .places) → rowIn s k ≡ alike anyReach anyReach
+  pub last-row : (k : ℕ) → k + 1 ≡ length (s .places) → rowIn g s k ≡ alike anyReach anyReach
   unfolding greatest
   last-row k last = rw (drop-of-length-le (marksOf s) {i = k + 1} (omega (arith, length-marks s same weighed))) refl
 
@@ -60,21 +58,21 @@ module _ (s : Strip) (same : length (s .places) ≡ length (s .lengths)) (weighe
   behind : (k : ℕ) → k + 1 < length (s .places) → drop (k + 1) (marksOf s) ≡ markAt s (k + 1) ∷ drop (k + 1 + 1) (marksOf s)
   behind k few = rw (add-one (k + 1)) (marks-from s (k + 1) same weighed few)
 
-  pub row-before : (k : ℕ) (next : List ℤ) → k + 1 < length (s .places) → map dot (four next) ≡ rowIn s (k + 1)
-      → rowBefore (dot (getD (s .places) k (pos 0))) (getD (s .lengths) k 0) (dot (getD (s .places) (k + 1) (pos 0))) (getD (s .lengths) (k + 1) 0) next
-      ≡ rowIn s k
+  pub row-before : (k : ℕ) (next : List ℤ) → k + 1 < length (s .places) → map dot (four next) ≡ rowIn g s (k + 1)
+      → rowBefore g (dot (getD (s .places) k (pos 0))) (getD (s .lengths) k 0) (dot (getD (s .places) (k + 1) (pos 0))) (getD (s .lengths) (k + 1) 0) next
+      ≡ rowIn g s k
   row-before k next few row =
-      rw (behind k few) (before (markAt s k) (markAt s (k + 1)) (drop (k + 1 + 1) (marksOf s)) next row)
+      rw (behind k few) (before g (markAt s k) (markAt s (k + 1)) (drop (k + 1 + 1) (marksOf s)) next row)
 
   -- a mark that keeps nothing: the first mark keeps nothing
-  pub none-kept-first : every placeInRange (s .places) ≡ true → (i : ℕ) → i < length (s .places) → countOf (rowIn s i) ≡ 0
-      → countOf (rowIn s 0) ≡ 0
+  pub none-kept-first : every placeInRange (s .places) ≡ true → (i : ℕ) → i < length (s .places) → countOf (rowIn g s i) ≡ 0
+      → countOf (rowIn g s 0) ≡ 0
   none-kept-first good zero inside e = e
   none-kept-first good (suc k) inside e =
       let placed = range-dots (getD (s .places) k (pos 0)) (every-at placeInRange (s .places) (pos 0) k good (omega arith)) in
       let next = rw (← add-one k) at e in
       none-kept-first good k (omega arith)
-      (rw (behind k (omega arith)) (none-kept-before (markAt s k) (markAt s (k + 1)) (drop (k + 1 + 1) (marksOf s)) (omega arith) next))
+      (rw (behind k (omega arith)) (none-kept-before g (markAt s k) (markAt s (k + 1)) (drop (k + 1 + 1) (marksOf s)) (omega arith) next))
 
 -- a store of some numbers changes nothing behind them
 pub drop-sets : (vs l : List ℤ) (i n : ℕ) → i + length vs ≤ n → drop n (sets l i vs) ≡ drop n l
@@ -89,9 +87,9 @@ stored-row l vs i long h =
     ∙ take-at vs (drop (i + length vs) l) 4 long
 
 -- the table with one more row
-pub one-more-row : (s : Strip) (work : List ℤ) (k : ℕ) (reaches : List ℤ) → 4 * k + 4 ≤ length work → RowsFrom (k + 1) work s
-    → map dot (four reaches) ≡ rowIn s k → RowsFrom k (sets work (4 * k) (four reaches)) s
-one-more-row s work k reaches room rows row j low high =
+pub one-more-row : (g : ℕ) (s : Strip) (work : List ℤ) (k : ℕ) (reaches : List ℤ) → 4 * k + 4 ≤ length work → RowsFrom g (k + 1) work s
+    → map dot (four reaches) ≡ rowIn g s k → RowsFrom g k (sets work (4 * k) (four reaches)) s
+one-more-row g s work k reaches room rows row j low high =
     ⊎-elim
     (λ (later : k < j).
     ap (λ (xs : List ℤ). map dot (take 4 xs)) (drop-sets (four reaches) work (4 * k) (4 * j) (omega arith)) ∙ rows j (omega arith) high)

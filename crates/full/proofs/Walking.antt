@@ -23,19 +23,21 @@ use Rattle.full.proofs.Within.{Inside, Reach}
 use Rattle.full.proofs.RowPicks.{marks-inside, inside-drop, row-picks, row-number, next-some}
 
 -- the numbers of the positions that the walk takes from the mark with index i on, beside the reaches a and b
-abbrev pub numbersFrom : Strip → ℕ → ℕ → ℕ → List ℕ
-numbersFrom s i a b = map code (walk 0 a b (drop i (marksOf s)))
+abbrev pub numbersFrom : ℕ → Strip → ℕ → ℕ → ℕ → List ℕ
+numbersFrom g s i a b = map code (walk g a b (drop i (marksOf s)))
 
 -- what holds before the mark with index i
-pub record Walking (places : List ℤ) (lengths : List ℕ) (work : List ℤ) (entry positions : List ℕ) (above below : ℤ) (i : ℕ) : Type 0 where
-  pub ready : WalkReady places lengths work entry
+pub record Walking (places : List ℤ) (lengths : List ℕ) (g : ℕ) (work : List ℤ) (entry positions : List ℕ)
+    (above below : ℤ) (i : ℕ) : Type 0 where
+  pub ready : WalkReady places lengths g work entry
   pub inside : i ≤ length places
   pub long : length positions ≡ length entry
   pub above-some : emptyReach ≤ dot above
   pub below-some : emptyReach ≤ dot below
   pub above-held : mag above < 32768
   pub below-held : mag below < 32768
-  pub so-far : AnyWeights places lengths (λ s. numbersFrom s 0 emptyReach emptyReach ≡ take i positions ++ numbersFrom s i (dot above) (dot below))
+  pub so-far : AnyWeights places lengths
+      (λ s. numbersFrom g s 0 emptyReach emptyReach ≡ take i positions ++ numbersFrom g s i (dot above) (dot below))
   pub untouched : drop i positions ≡ drop i entry
 
 -- a reach held in 16 bits, no less than that of an empty side, is inside the coordinates
@@ -43,10 +45,10 @@ held-reach : (z : ℤ) → emptyReach ≤ dot z → mag z < 32768 → Reach (dot
 held-reach (pos n) some held = record { some = some; inside = omega arith }
 held-reach (negsuc n) some held = record { some = some; inside = omega arith }
 
-module _ (places : List ℤ) (lengths : List ℕ) (work : List ℤ) (entry : List ℕ) where
+module _ (places : List ℤ) (lengths : List ℕ) (g : ℕ) (work : List ℤ) (entry : List ℕ) where
   -- before the first mark nothing is written and both sides are empty
   pub walking-start : (above below : ℤ) → dot above ≡ emptyReach → dot below ≡ emptyReach → mag above < 32768 → mag below < 32768
-      → WalkReady places lengths work entry → Walking places lengths work entry entry above below 0
+      → WalkReady places lengths g work entry → Walking places lengths g work entry entry above below 0
   walking-start above below above-empty below-empty above-held below-held ready =
       record {
         ready = ready;
@@ -60,7 +62,7 @@ module _ (places : List ℤ) (lengths : List ℕ) (work : List ℤ) (entry : Lis
         untouched = refl;
       }
 
-  module _ (positions : List ℕ) (above below : ℤ) (i : ℕ) (w : Walking places lengths work entry positions above below i) where
+  module _ (positions : List ℕ) (above below : ℤ) (i : ℕ) (w : Walking places lengths g work entry positions above below i) where
     -- the place of the mark here, and a number of its row
     abbrev here : ℤ
     here = getD places i (pos 0)
@@ -86,15 +88,16 @@ module _ (places : List ℤ) (lengths : List ℕ) (work : List ℤ) (entry : Lis
         from-here : drop i (marksOf whole) ≡ markAt whole i ∷ behind
         from-here = rw (add-one i) (marks-from whole i (w .ready .ready .same-lengths) same more)
 
-        inside-here : Inside 0 (markAt whole i ∷ behind)
+        inside-here : Inside g (markAt whole i ∷ behind)
         inside-here =
-            subst (Inside 0) from-here
-            (inside-drop 0 i (marksOf whole) (marks-inside whole (w .ready .ready .places-good) (w .ready .ready .lengths-good)))
+            let good = w .ready .ready in
+            subst (Inside g) from-here
+            (inside-drop g i (marksOf whole) (marks-inside g whole (good .gap-narrow) (good .places-good) (good .lengths-good)))
 
         -- the row in the work area is the mark's, so it picks what the definition picks
-        taken-is : taken ≡ pick 0 (dot above) (dot below) (markAt whole i) behind
+        taken-is : taken ≡ pick g (dot above) (dot below) (markAt whole i) behind
         taken-is =
-            let row = rowOf 0 (markAt whole i) behind in
+            let row = rowOf g (markAt whole i) behind in
             let stored : map dot (rowAt work i) ≡ row = w .ready .rows ws same i (omega arith) more in
             let first : 4 * i + 0 ≡ 4 * i = omega arith in
             rw (
@@ -102,25 +105,25 @@ module _ (places : List ℤ) (lengths : List ℕ) (work : List ℤ) (entry : Lis
               row-number work i 1 row stored (omega arith),
               row-number work i 2 row stored (omega arith),
             )
-            (row-picks (dot above) (dot below) (markAt whole i) behind (held-reach above (w .above-some) (w .above-held))
+            (row-picks g (dot above) (dot below) (markAt whole i) behind (held-reach above (w .above-some) (w .above-held))
             (held-reach below (w .below-some) (w .below-held)) inside-here)
 
-      module _ (position : ℕ) (above′ below′ : ℤ) (s : Stepped above below here (getD lengths i 0) taken position above′ below′) where
+      module _ (position : ℕ) (above′ below′ : ℤ) (s : Stepped g above below here (getD lengths i 0) taken position above′ below′) where
         -- so the walk from here on begins with the number that the step gives
         numbers-here : AnyWeights places lengths
-            (λ s. numbersFrom s i (dot above) (dot below) ≡ position ∷ numbersFrom s (i + 1) (dot above′) (dot below′))
+            (λ s. numbersFrom g s i (dot above) (dot below) ≡ position ∷ numbersFrom g s (i + 1) (dot above′) (dot below′))
         unfolding walk
         numbers-here ws same =
             let weight = getD ws i 0 in
             rw (from-here ws same, sym (taken-is ws same), s .position-is, s .above-is weight, s .below-is weight) refl
 
         -- one mark more
-        pub walking-more : emptyReach ≤ dot here → Walking places lengths work entry (set positions i position) above′ below′ (i + 1)
+        pub walking-more : emptyReach ≤ dot here → Walking places lengths g work entry (set positions i position) above′ below′ (i + 1)
         walking-more placed =
             let room = w .ready .places-for-all in
             let long = w .long in
             let mark : Mark = record { place = dot here; labelLength = getD lengths i 0; weight = 0 } in
-            let some = next-some taken mark (dot above) (dot below) (w .above-some) (w .below-some) placed in
+            let some = next-some g taken mark (dot above) (dot below) (w .above-some) (w .below-some) placed in
             record {
               ready = w .ready;
               inside = omega arith;
@@ -132,12 +135,12 @@ module _ (places : List ℤ) (lengths : List ℕ) (work : List ℤ) (entry : Lis
               so-far = λ ws same.
                   w .so-far ws same
                   ∙ rw (numbers-here ws same, take-more i position positions (omega arith))
-                  (sym (append-snoc (take i positions) position (numbersFrom (strip places lengths ws) (i + 1) (dot above′) (dot below′))));
+                  (sym (append-snoc (take i positions) position (numbersFrom g (strip places lengths ws) (i + 1) (dot above′) (dot below′))));
               untouched = drop-more i position positions entry (w .untouched);
             }
 
     -- behind the last mark the numbers are those of the whole walk
-    pub walking-done : i ≡ length places → Walked places lengths entry positions
+    pub walking-done : i ≡ length places → Walked places lengths g entry positions
     unfolding walk
     walking-done all ws same =
         let room = w .ready .places-for-all in
@@ -145,7 +148,7 @@ module _ (places : List ℤ) (lengths : List ℕ) (work : List ℤ) (entry : Lis
         let s = strip places lengths ws in
         let none-left : drop i (marksOf s) ≡ [] =
         drop-of-length-le (marksOf s) {i = i} (omega (arith, length-marks s (w .ready .ready .same-lengths) same)) in
-        let numbers : take i positions ≡ numbersFrom s 0 emptyReach emptyReach =
+        let numbers : take i positions ≡ numbersFrom g s 0 emptyReach emptyReach =
         sym (w .so-far ws same ∙ rw none-left (append-nil (take i positions))) in
-        written-whole i positions (numbersFrom s 0 emptyReach emptyReach) entry numbers (w .untouched)
+        written-whole i positions (numbersFrom g s 0 emptyReach emptyReach) entry numbers (w .untouched)
         (sym (ap length numbers) ∙ length-take-le i positions (omega arith))

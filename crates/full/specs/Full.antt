@@ -1,4 +1,5 @@
 -- "Full: one position for each mark. Of all placings it is the first, comparing from mark 1 on, with positions ranked 2, 3, 1, 4."
+-- "The passes take a gap, 0 to 8 dots. [..] Everything built on the overlap rule takes the gap along" (document 02, P2).
 use Prim.Native.Nat.{ℕ}
 use mathlib.Core.Path.{_≡_}
 use mathlib.Core.List.{List, map}
@@ -23,9 +24,9 @@ pub record FullLent : Type 0 where
 abbrev pub fullLent : List ℕ → List ℤ → FullLent
 fullLent positions work = record { positions = positions; work = work }
 
--- the checks 6 to 10
-abbrev pub fullChecks : Strip → FullLent → Verdict
-fullChecks s entry = passVerdict mostMarks s (length (entry .positions)) workNamed (length (entry .work))
+-- the checks 6, 12 and 7 to 10, at a gap of g dots
+abbrev pub fullChecks : Strip → ℕ → FullLent → Verdict
+fullChecks s g entry = passVerdict mostMarks s g (length (entry .positions)) workNamed (length (entry .work))
 
 -- "full and slide, at the end: 11 no placing exists", behind the checks
 abbrev pub fullVerdict : Verdict → Option (List Position) → Verdict
@@ -39,8 +40,8 @@ positionsAfter (refused r) placing old = old
 positionsAfter accepted none old = old
 positionsAfter accepted (some ps) old = written (map code ps) old
 
--- The contract: the strip, the lent lists at entry and at exit, and the number. Nothing is open.
-pub record FullContract (s : Strip) (entry exit : FullLent) (number : ℕ) : Type 0 where
-  pub number-is : number ≡ numberOf (fullVerdict (fullChecks s entry) (firstPlacing 0 (marksOf s)))
-  pub positions-are : exit .positions ≡ positionsAfter (fullChecks s entry) (firstPlacing 0 (marksOf s)) (entry .positions)
-  pub work-is : exit .work ≡ workAfter workNamed (pos 0) (fullChecks s entry) (entry .work)
+-- The contract: the strip, the gap, the lent lists at entry and at exit, and the number. Nothing is open.
+pub record FullContract (s : Strip) (g : ℕ) (entry exit : FullLent) (number : ℕ) : Type 0 where
+  pub number-is : number ≡ numberOf (fullVerdict (fullChecks s g entry) (firstPlacing g (marksOf s)))
+  pub positions-are : exit .positions ≡ positionsAfter (fullChecks s g entry) (firstPlacing g (marksOf s)) (entry .positions)
+  pub work-is : exit .work ≡ workAfter workNamed (pos 0) (fullChecks s g entry) (entry .work)

@@ -5,10 +5,11 @@ ghost use mathlib.Core.Bool.{true};
 ghost use Prim.Native.Nat.{_≤_};
 ghost use Rattle.geometry.specs.Dot.{dot};
 ghost use Rattle.geometry.specs.Mark.{placeInRange};
+ghost use Rattle.geometry.specs.Pass.{mostGap};
 ghost use Rattle.full.specs.inner.Row.{candidates, alike, keptOne, rowBefore, Counted};
 use crate::passed::if_passed;
+use geometry::ends::further;
 use geometry::ends::left_end;
-use geometry::ends::right_end;
 use geometry::order::at_most;
 use geometry::order::larger;
 
@@ -57,16 +58,26 @@ fn both_sides(left: i16, right: i16) -> Kept
     }
 }
 
-// The kept part layouts of a mark from those of the next one.
-pub fn kept_before(place: i16, length: u8, next_place: i16, next_length: u8, next: Kept) -> Kept
-    requires { ⌜ (placeInRange place ≡ true) × (placeInRange «next_place» ≡ true) ⌝ }
-    ensures { λ r. ⌜ Counted (rowBefore (dot place) length (dot «next_place») «next_length» (next .reaches)) (r .reaches) (r .count) ⌝ }
+// The kept part layouts of a mark from those of the next one. A label's side reaches to its right end with the gap behind it: `near`
+// for the label to the left, which ends at its mark, `far` for the one to the right.
+pub fn kept_before(
+    place: i16,
+    length: u8,
+    gap: u8,
+    next_place: i16,
+    next_length: u8,
+    next: Kept,
+) -> Kept
+    requires { ⌜ (placeInRange place ≡ true) × (placeInRange «next_place» ≡ true) × (gap ≤ mostGap) ⌝ }
+    ensures { λ r. ⌜ Counted (rowBefore gap (dot place) length (dot «next_place») «next_length» (next .reaches)) (r .reaches) (r .count) ⌝ }
 {
     let left = left_end(next_place, next_length);
-    let right = right_end(place, length);
+    let near = further(place, gap);
+    let right = further(place, length);
+    let far = further(right, gap);
     let reaches = next.reaches;
     both_sides(
-        greatest(place, next_place, left, reaches[0], reaches[2]),
-        greatest(right, next_place, left, reaches[0], reaches[2]),
+        greatest(near, next_place, left, reaches[0], reaches[2]),
+        greatest(far, next_place, left, reaches[0], reaches[2]),
     )
 }

@@ -18,16 +18,17 @@ use geometry::refusal::NO_PLACING;
 // The part of the work area that is named, and ends as zeros also at 11.
 pub const WORK_NAMED: usize = 20000;
 
-// The first placing of the strip, or 11 if there is none; 6 to 10 if a check is not passed.
+// The first placing of the strip at a gap of so many dots, or 11 if there is none; 6 to 10 or 12 if a check is not passed.
 pub fn full(
     places: &[i16],
     lengths: &[u8],
     weights: &[u16],
+    gap: u8,
     positions: &mut [u8],
     work: &mut [i16],
 ) -> u8
     ensures { λ r. ⌜ FullContract
-        (strip (now (places .entry)) (now (lengths .entry)) (now (weights .entry)))
+        (strip (now (places .entry)) (now (lengths .entry)) (now (weights .entry))) gap
         (fullLent (now (positions .entry)) (now (work .entry)))
         (fullLent (now (positions .exit)) (now (work .exit))) r ⌝ }
 {
@@ -35,6 +36,7 @@ pub fn full(
         places,
         lengths,
         weights,
+        gap,
         MOST_MARKS,
         positions.len(),
         WORK_NAMED,
@@ -43,12 +45,12 @@ pub fn full(
     if refused != 0 {
         return refused;
     }
-    let kept = table::fill(places, lengths, work);
+    let kept = table::fill(places, lengths, gap, work);
     if kept == 0 {
         work::clear(work);
         return NO_PLACING;
     }
-    walk::walk(places, lengths, work, positions);
+    walk::walk(places, lengths, gap, work, positions);
     work::clear(work);
     0
 }

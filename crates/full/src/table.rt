@@ -26,9 +26,9 @@ fn store(work: &mut [i16], i: usize, kept: Kept)
 // Fills the table from the last mark to the first and returns the count of the first mark's kept part layouts; an empty strip,
 // which has nothing left to place, counts as one that keeps all four. Where a mark keeps none, no mark before it does, and the rest
 // of the table is left as it is.
-pub fn fill(places: &[i16], lengths: &[u8], work: &mut [i16]) -> u8
-    requires { ⌜ Ready (now places) (now lengths) (now work) ⌝ }
-    ensures { λ r. ⌜ Filled (now (places .entry)) (now (lengths .entry)) (now (work .entry)) (now (work .exit)) r ⌝ }
+pub fn fill(places: &[i16], lengths: &[u8], gap: u8, work: &mut [i16]) -> u8
+    requires { ⌜ Ready (now places) (now lengths) gap (now work) ⌝ }
+    ensures { λ r. ⌜ Filled (now (places .entry)) (now (lengths .entry)) gap (now (work .entry)) (now (work .exit)) r ⌝ }
 {
     let mut next = Kept {
         reaches: [NO_BOUND, NO_BOUND, NO_BOUND, NO_BOUND],
@@ -40,7 +40,14 @@ pub fn fill(places: &[i16], lengths: &[u8], work: &mut [i16]) -> u8
     let mut i = places.len() - 1;
     store(work, i, next);
     while 0 < i {
-        next = kept_before(places[i - 1], lengths[i - 1], places[i], lengths[i], next);
+        next = kept_before(
+            places[i - 1],
+            lengths[i - 1],
+            gap,
+            places[i],
+            lengths[i],
+            next,
+        );
         if next.count == 0 {
             return 0;
         }

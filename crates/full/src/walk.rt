@@ -1,17 +1,18 @@
 // The walk from the left: at each mark the first position, in the order 2, 3, 1, 4, that the table allows.
 ghost use mathlib.Core.Path.{_≡_};
 ghost use mathlib.Core.Bool.{true, _&&_};
-ghost use Prim.Native.Nat.{_-_};
+ghost use Prim.Native.Nat.{_-_, _≤_};
 ghost use lib.Dec.{leb};
 ghost use Rattle.geometry.specs.Dot.{dot};
 ghost use Rattle.geometry.specs.Mark.{placeInRange};
+ghost use Rattle.geometry.specs.Pass.{mostGap};
 ghost use Rattle.geometry.specs.Position.{code};
 ghost use Rattle.full.specs.inner.Rest.{firstPassed, pickByRow, Stepped};
 ghost use Rattle.full.specs.inner.Table.{WalkReady, Walked};
 use crate::passed::if_passed;
 use geometry::ends::EMPTY_REACH;
+use geometry::ends::further;
 use geometry::ends::left_end;
-use geometry::ends::right_end;
 use geometry::order::at_most;
 
 // The position taken at a mark, and the reaches above and below after it.
@@ -44,42 +45,45 @@ fn number(two: bool, three: bool, one: bool) -> u8
 }
 
 // One step beside the reaches `above` and `below`, at a mark whose positions 2, 3 and 1 leave `first`, `second` and `third` to the
-// other side.
+// other side. `near` and `far` are the reaches of the label's side with the label to the left and with it to the right.
 fn step(
     above: i16,
     below: i16,
     place: i16,
     length: u8,
+    gap: u8,
     first: i16,
     second: i16,
     third: i16,
 ) -> Taken
-    requires { ⌜ placeInRange place ≡ true ⌝ }
+    requires { ⌜ (placeInRange place ≡ true) × (gap ≤ mostGap) ⌝ }
     ensures { λ r. ⌜ Stepped
-        above below place length
+        gap above below place length
         (pickByRow (dot above) (dot below) (dot place - length) (dot place) (dot first) (dot second) (dot third))
         (r .position) (r .above) (r .below) ⌝ }
 {
     let left = left_end(place, length);
-    let right = right_end(place, length);
+    let near = further(place, gap);
+    let right = further(place, length);
+    let far = further(right, gap);
     let two = leaves_rest(above, left, below, first);
     let three = leaves_rest(below, left, above, second);
     let one = leaves_rest(above, place, below, third);
-    let above_right = if_passed(one, right, above);
-    let below_right = if_passed(one, below, right);
+    let above_right = if_passed(one, far, above);
+    let below_right = if_passed(one, below, far);
     let above_rest = if_passed(three, above, above_right);
-    let below_rest = if_passed(three, place, below_right);
+    let below_rest = if_passed(three, near, below_right);
     Taken {
         position: number(two, three, one),
-        above: if_passed(two, place, above_rest),
+        above: if_passed(two, near, above_rest),
         below: if_passed(two, below, below_rest),
     }
 }
 
 // Writes the position of every mark.
-pub fn walk(places: &[i16], lengths: &[u8], work: &[i16], positions: &mut [u8])
-    requires { ⌜ WalkReady (now places) (now lengths) (now work) (now positions) ⌝ }
-    ensures { λ _. ⌜ Walked (now (places .entry)) (now (lengths .entry)) (now (positions .entry)) (now (positions .exit)) ⌝ }
+pub fn walk(places: &[i16], lengths: &[u8], gap: u8, work: &[i16], positions: &mut [u8])
+    requires { ⌜ WalkReady (now places) (now lengths) gap (now work) (now positions) ⌝ }
+    ensures { λ _. ⌜ Walked (now (places .entry)) (now (lengths .entry)) gap (now (positions .entry)) (now (positions .exit)) ⌝ }
 {
     let mut at = Taken {
         position: 0,
@@ -94,6 +98,7 @@ pub fn walk(places: &[i16], lengths: &[u8], work: &[i16], positions: &mut [u8])
             at.below,
             places[i],
             lengths[i],
+            gap,
             work[row],
             work[row + 1],
             work[row + 2],

@@ -15,13 +15,12 @@ use Rattle.geometry.specs.Dot.{dot}
 use Rattle.geometry.specs.Lists.{every}
 use Rattle.geometry.specs.Mark.{placeInRange, lengthInRange, weightInRange, rising, mostLength, mostWeight}
 use Rattle.geometry.specs.Strip.{Strip, strip, marksOfLists, marksOf}
-use Rattle.geometry.specs.Refusal.{Refusal, Verdict, accepted, afterCheck, firstFailure, listsUnequal, tooManyMarks, badMark}
-use Rattle.geometry.specs.Entry.{sameLengths, goodPlaces, goodLabels, goodMarks, entryChecks, entry}
-use Rattle.geometry.specs.Pass.{lentChecks, passVerdict}
+use Rattle.geometry.specs.Refusal.{Refusal, Verdict, accepted, afterCheck, firstFailure, tooManyMarks, badMark}
+use Rattle.geometry.specs.Entry.{sameLengths, goodPlaces, goodLabels, goodMarks, entry}
+use Rattle.geometry.specs.Pass.{mostGap, passVerdict}
 use Rattle.geometry.specs.inner.At.{markAt}
 use Rattle.geometry.specs.inner.Rising.{Rising}
 use Rattle.geometry.proofs.Split.{and-fst, and-snd}
-use Rattle.geometry.proofs.Verdicts.{then, failure-append}
 use Rattle.geometry.proofs.Dots.{dot-lt, range-dots, range-mag}
 
 -- what the checks on entry, once passed, say of a strip
@@ -33,6 +32,13 @@ pub record Accepted (limit : ℕ) (s : Strip) : Type 0 where
   pub places-rise : rising (s .places) ≡ true
   pub lengths-good : every lengthInRange (s .lengths) ≡ true
   pub weights-good : every weightInRange (s .weights) ≡ true
+
+-- what checks 6 to 10, with 12, say besides of the gap and of the lengths of lent memory
+pub record PassAccepted (limit : ℕ) (s : Strip) (g shortest named lent : ℕ) : Type 0 where
+  pub entered : Accepted limit s
+  pub gap-narrow : g ≤ mostGap
+  pub list-long : length (s .places) ≤ shortest
+  pub work-long : named ≤ lent
 
 -- a list of checks that ends well passes its first check, and the rest of it
 check-passed : (t : Bool) (r : Refusal) (v : Verdict) → afterCheck t r v ≡ accepted → t ≡ true
@@ -61,45 +67,35 @@ module _ (limit : ℕ) (s : Strip) where
         weights-good = and-snd (every lengthInRange (s .lengths)) (every weightInRange (s .weights)) labels;
       }
 
-  -- the checks on entry, with whatever verdict follows them
-  after-entry : (v : Verdict)
-      → afterCheck (sameLengths s) listsUnequal
-      (afterCheck (leb (length (s .places)) limit) tooManyMarks (afterCheck (goodMarks s) badMark v))
-      ≡ accepted
+  -- past check 6, checks 7 and 8, with whatever verdict follows them
+  after-marks : (v : Verdict) → sameLengths s ≡ true
+      → afterCheck (leb (length (s .places)) limit) tooManyMarks (afterCheck (goodMarks s) badMark v) ≡ accepted
       → Accepted limit s × (v ≡ accepted)
-  after-entry v e =
-      let counted = rest-passed (sameLengths s) _ _ e in
-      let judged = rest-passed (leb (length (s .places)) limit) _ _ counted in (
-        from-tests (check-passed (sameLengths s) _ _ e) (check-passed (leb (length (s .places)) limit) _ _ counted)
-            (check-passed (goodMarks s) _ _ judged),
+  after-marks v same e =
+      let judged = rest-passed (leb (length (s .places)) limit) _ _ e in (
+        from-tests same (check-passed (leb (length (s .places)) limit) _ _ e) (check-passed (goodMarks s) _ _ judged),
         rest-passed (goodMarks s) _ _ judged,
       )
 
   -- from the verdict on entry
   pub entry-accepted : entry limit s ≡ accepted → Accepted limit s
   unfolding entry firstFailure
-  entry-accepted e = after-entry accepted e .0
+  entry-accepted e = after-marks accepted (check-passed (sameLengths s) _ _ e) (rest-passed (sameLengths s) _ _ e) .0
 
-  -- from the verdict on checks 6 to 10
-  pub pass-accepted : (shortest named lent : ℕ) → passVerdict limit s shortest named lent ≡ accepted
-      → Accepted limit s × (length (s .places) ≤ shortest) × (named ≤ lent)
+  -- from the verdict on the checks of a pass
+  pub pass-accepted : (g shortest named lent : ℕ) → passVerdict limit s g shortest named lent ≡ accepted
+      → PassAccepted limit s g shortest named lent
   unfolding passVerdict firstFailure
-  pass-accepted shortest named lent e =
-      let entered = after-entry _ e in
-      let listed = rest-passed (leb (length (s .places)) shortest) _ _ (entered .1) in (
-        entered .0,
-        leb-true _ _ (check-passed (leb (length (s .places)) shortest) _ _ (entered .1)),
-        leb-true _ _ (check-passed (leb named lent) _ _ listed),
-      )
-
--- an accepted strip passes the checks 6 to 10 too where there is room
-pub accept-pass : (limit : ℕ) (s : Strip) (shortest named lent : ℕ) → entry limit s ≡ accepted → length (s .places) ≤ shortest → named ≤ lent
-    → passVerdict limit s shortest named lent ≡ accepted
-unfolding passVerdict entry firstFailure
-accept-pass limit s shortest named lent e h k =
-    let two = lentChecks (length (s .places)) shortest named lent in
-    failure-append (entryChecks limit s) two ∙ ap (λ (v : Verdict). then v (firstFailure two)) e
-    ∙ rw (le-leb (length (s .places)) shortest h, le-leb named lent k) refl
+  pass-accepted g shortest named lent e =
+      let compared = rest-passed (sameLengths s) _ _ e in
+      let marks = after-marks _ (check-passed (sameLengths s) _ _ e) (rest-passed (leb g mostGap) _ _ compared) in
+      let listed = rest-passed (leb (length (s .places)) shortest) _ _ (marks .1) in
+      record {
+        entered = marks .0;
+        gap-narrow = leb-true _ _ (check-passed (leb g mostGap) _ _ compared);
+        list-long = leb-true _ _ (check-passed (leb (length (s .places)) shortest) _ _ (marks .1));
+        work-long = leb-true _ _ (check-passed (leb named lent) _ _ listed);
+      }
 
 -- a strip of which the checks' tests hold passes them
 pub accepted-entry : (limit : ℕ) (s : Strip) → Accepted limit s → entry limit s ≡ accepted
@@ -113,6 +109,26 @@ accepted-entry limit s a =
       a .places-rise,
       a .lengths-good,
       a .weights-good,
+    )
+    refl
+
+-- and those of a pass too where the gap is narrow and there is room
+pub accept-pass : (limit : ℕ) (s : Strip) (g shortest named lent : ℕ) → entry limit s ≡ accepted → g ≤ mostGap
+    → length (s .places) ≤ shortest → named ≤ lent → passVerdict limit s g shortest named lent ≡ accepted
+unfolding passVerdict firstFailure
+accept-pass limit s g shortest named lent e narrow h k =
+    let a = entry-accepted limit s e in
+    rw (
+      eq-eqb (length (s .places)) (length (s .lengths)) (a .same-lengths),
+      eq-eqb (length (s .places)) (length (s .weights)) (a .same-weights),
+      le-leb g mostGap narrow,
+      le-leb (length (s .places)) limit (a .few),
+      a .places-good,
+      a .places-rise,
+      a .lengths-good,
+      a .weights-good,
+      le-leb (length (s .places)) shortest h,
+      le-leb named lent k,
     )
     refl
 

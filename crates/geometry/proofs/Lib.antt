@@ -11,6 +11,7 @@ pub mod Distances
 pub mod SignedSliding
 pub mod Rising
 pub mod Machine
+pub mod GapInWords
 pub mod Reaches
 pub mod Words
 pub mod Kept

@@ -1,7 +1,7 @@
 -- A choice is free exactly if the walk with two reaches goes through; only here do places have to rise strictly.
 -- A label of an earlier mark cannot lie wholly to the right of a later one on its side, so of the two ways in which labels can be
 -- apart only one is left, and of the earlier labels only the last one on the side matters.
-use mathlib.Core.Path.{_≡_, refl, _∙_, ap}
+use mathlib.Core.Path.{_≡_, refl}
 use mathlib.Core.Bool.{Bool, true, false, not, _&&_, and-false}
 use mathlib.Core.Logic.{_↔_}
 use mathlib.Core.List.{List, [], _∷_, map}
@@ -51,27 +51,26 @@ clear : (g a b : ℕ) (m n : Mark) (p q : Position) → Room (nextAbove g a m p)
 clear g a b m n unlabelled q k = refl
 clear g a b m n (at s d) unlabelled k = refl
 clear g a b m n (at above d) (at above e) k =
-    ap (λ (t : Bool). ltb (leftEnd m d) (rightEnd n e + g) && t) (le-ltb _ _ k) ∙ and-false (ltb (leftEnd m d) (rightEnd n e + g))
+    rw (le-ltb (leftEnd n e) (rightEnd m d + g) k) (and-false (ltb (leftEnd m d) _))
 clear g a b m n (at above d) (at below e) k = refl
 clear g a b m n (at below d) (at above e) k = refl
 clear g a b m n (at below d) (at below e) k =
-    ap (λ (t : Bool). ltb (leftEnd m d) (rightEnd n e + g) && t) (le-ltb _ _ k) ∙ and-false (ltb (leftEnd m d) (rightEnd n e + g))
+    rw (le-ltb (leftEnd n e) (rightEnd m d + g) k) (and-false (ltb (leftEnd m d) _))
 
 -- a later label on the same side that does not overlap begins where the earlier one ends, or beyond
-after : (g : ℕ) (m n : Mark) (d e : Direction) → m .place < n .place
-    → (ltb (leftEnd m d) (rightEnd n e + g) && ltb (leftEnd n e) (rightEnd m d + g)) ≡ false → rightEnd m d + g ≤ leftEnd n e
-after g m n d e h t =
-    ltb-false _ _ (rw (lt-ltb (leftEnd m d) (rightEnd n e + g) (omega (arith, left-le m d, right-ge n e))) at t)
+after : (g : ℕ) (m n : Mark) (d e : Direction) {beyond : ℕ} → leftEnd m d < beyond
+    → (ltb (leftEnd m d) beyond && ltb (leftEnd n e) (rightEnd m d + g)) ≡ false → rightEnd m d + g ≤ leftEnd n e
+after g m n d e {beyond} h t = ltb-false _ _ (rw (lt-ltb (leftEnd m d) beyond h) at t)
 
 -- so what fits before a label and does not overlap it fits after it
 wider : (g a b : ℕ) (m n : Mark) (p q : Position) → m .place < n .place → Room a b n q → overlaps g m p n q ≡ false
     → Room (nextAbove g a m p) (nextBelow g b m p) n q
 wider g a b m n unlabelled q h k t = k
 wider g a b m n (at s d) unlabelled h k t = tt
-wider g a b m n (at above d) (at above e) h k t = after g m n d e h t
+wider g a b m n (at above d) (at above e) h k t = after g m n d e (omega (arith, left-le m d, right-ge n e)) t
 wider g a b m n (at above d) (at below e) h k t = k
 wider g a b m n (at below d) (at above e) h k t = k
-wider g a b m n (at below d) (at below e) h k t = after g m n d e h t
+wider g a b m n (at below d) (at below e) h k t = after g m n d e (omega (arith, left-le m d, right-ge n e)) t
 
 -- every label of a choice fits beside the same two reaches
 abbrev pub AllRoom : ℕ → ℕ → List Mark → List Position → Type 0

@@ -16,9 +16,10 @@ use Rattle.geometry.specs.SignedEnds.{signedLeftEnd, signedRightEnd, sig
 use Rattle.geometry.proofs.Split.{and-snd}
 use Rattle.geometry.proofs.Dots.{not-low, add-not-low, dot-lt-high, dot-add, mag-add, dot-sub, mag-sub, range-dots, range-mag}
 
--- a coordinate compared with another one plus any gap
-lt-with-gap : (g : ℕ) (z w : ℤ) → mag z < 32768 → mag w < 32768 → ltZ z (w +ℤ pos g) ≡ ltb (dot z) (dot w + g)
-lt-with-gap g z w h k = dot-lt-high z (w +ℤ pos g) (not-low z h) (add-not-low w g k) ∙ ap (ltb (dot z)) (dot-add w g k)
+-- a coordinate compared with another one plus any gap, by their dots i and j
+lt-with-gap : (g : ℕ) (z w : ℤ) {i j : ℕ} → mag z < 32768 → mag w < 32768 → dot z ≡ i → j ≡ dot w + g → ltb i j ≡ ltZ z (w +ℤ pos g)
+lt-with-gap g z w h k first second =
+    sym (dot-lt-high z (w +ℤ pos g) (not-low z h) (add-not-low w g k) ∙ ap₂ ltb first (dot-add w g k ∙ sym second))
 
 -- the mark at a signed place
 abbrev markOf : ℤ → ℕ → ℕ → Mark
@@ -55,9 +56,7 @@ overlap-by-signed-ends g v w z y l k (at s d) unlabelled gz gl gy gk = refl
 overlap-by-signed-ends g v w z y l k (at s d) (at t e) gz gl gy gk =
     ap (λ (b : Bool). sameSide s t && b)
     (ap₂ (λ (b c : Bool). b && c)
-    (sym
-    (lt-with-gap g (signedLeftEnd z l d) (signedRightEnd y k e) (left-mag v z l gz gl d) (right-mag w y k gy gk e)
-    ∙ ap₂ (λ i j. ltb i (j + g)) (left-dot v z l gz gl d) (right-dot w y k gy gk e)))
-    (sym
-    (lt-with-gap g (signedLeftEnd y k e) (signedRightEnd z l d) (left-mag w y k gy gk e) (right-mag v z l gz gl d)
-    ∙ ap₂ (λ i j. ltb i (j + g)) (left-dot w y k gy gk e) (right-dot v z l gz gl d))))
+    (lt-with-gap g (signedLeftEnd z l d) (signedRightEnd y k e) (left-mag v z l gz gl d) (right-mag w y k gy gk e) (left-dot v z l gz gl d)
+    (omega (arith, right-dot w y k gy gk e)))
+    (lt-with-gap g (signedLeftEnd y k e) (signedRightEnd z l d) (left-mag w y k gy gk e) (right-mag v z l gz gl d) (left-dot w y k gy gk e)
+    (omega (arith, right-dot v z l gz gl d))))

@@ -1,6 +1,6 @@
 -- The number of a verdict tells acceptance from refusal, since no refusal has the number 0. The first failure of a list of checks followed
--- by more checks is that of the first list if it has one, else that of the second. Checks 6 to 10 of a pass never give 11: each has
--- its own number, and 11 is none of them.
+-- by more checks is that of the first list if it has one, else that of the second. The checks of a pass before its work never give 11: each
+-- has its own number, and 11 is none of them.
 use mathlib.Core.Path.{_≡_, refl, _∙_, ap}
 use mathlib.Core.Bool.{Bool, true, false}
 use mathlib.Core.List.{List, [], _∷_, _++_}
@@ -10,15 +10,11 @@ use lib.Dec.{leb}
 use lib.ListN.{length}
 use Rattle.geometry.specs.Strip.{Strip}
 use Rattle.geometry.specs.Entry.{sameLengths, goodMarks}
-use Rattle.geometry.specs.Pass.{passVerdict}
+use Rattle.geometry.specs.Pass.{mostGap, passVerdict}
 use Rattle.geometry.specs.Refusal.{Refusal, bytesEnd, strayBit, absentValue, outOfRange, bytesLeftOver, listsUnequal, tooManyMarks}
-use Rattle.geometry.specs.Refusal.{badMark, listTooShort, workTooShort, noPlacing, refusalNumber, Verdict, accepted, refused, numberOf, Check}
-use Rattle.geometry.specs.Refusal.{afterCheck, firstFailure}
-
--- a refusal stands, whatever would follow
-abbrev pub then : Verdict → Verdict → Verdict
-then accepted w = w
-then (refused r) w = refused r
+use Rattle.geometry.specs.Refusal.{badMark, listTooShort, workTooShort, noPlacing, gapTooWide, refusalNumber}
+use Rattle.geometry.specs.Refusal.{Verdict, accepted, refused, numberOf, Check, afterCheck, firstFailure}
+use Rattle.geometry.specs.inner.OnEntry.{then}
 
 -- a check before two verdicts is a check before the first of them
 after-then : (t : Bool) (r : Refusal) (v w : Verdict) → afterCheck t r (then v w) ≡ then (afterCheck t r v) w
@@ -31,6 +27,11 @@ unfolding firstFailure
 failure-append [] ds = refl
 failure-append (c ∷ cs) ds =
     ap (afterCheck (c .passes) (c .otherwise)) (failure-append cs ds) ∙ after-then (c .passes) (c .otherwise) (firstFailure cs) (firstFailure ds)
+
+-- and of three
+pub three-failures : (cs ds es : List Check)
+    → firstFailure (cs ++ ds ++ es) ≡ then (then (firstFailure cs) (firstFailure ds)) (firstFailure es)
+three-failures cs ds es = failure-append (cs ++ ds) es ∙ ap (λ (v : Verdict). then v (firstFailure es)) (failure-append cs ds)
 
 -- no refusal has the number 0
 pub refusal-positive : (r : Refusal) → refusalNumber r ≡ 0 → ⊥
@@ -45,6 +46,7 @@ refusal-positive badMark e = omega arith
 refusal-positive listTooShort e = omega arith
 refusal-positive workTooShort e = omega arith
 refusal-positive noPlacing e = omega arith
+refusal-positive gapTooWide e = omega arith
 
 -- so number 0 is acceptance
 pub zero-accepted : (v : Verdict) → numberOf v ≡ 0 → v ≡ accepted
@@ -65,13 +67,14 @@ after-not-11 : (t : Bool) (r : Refusal) (v : Verdict) → (refusalNumber r ≡ r
 after-not-11 true r v this others = others
 after-not-11 false r v this others = this
 
--- so no check of 6 to 10 of a pass gives 11
-pub pass-not-11 : (limit : ℕ) (s : Strip) (shortest named lent : ℕ)
-    → numberOf (passVerdict limit s shortest named lent) ≡ refusalNumber noPlacing → ⊥
+-- so no check of a pass before its work gives 11
+pub pass-not-11 : (limit : ℕ) (s : Strip) (g shortest named lent : ℕ)
+    → numberOf (passVerdict limit s g shortest named lent) ≡ refusalNumber noPlacing → ⊥
 unfolding passVerdict firstFailure
-pass-not-11 limit s shortest named lent =
+pass-not-11 limit s g shortest named lent =
     after-not-11 (sameLengths s) _ _ (λ e. omega arith)
+    (after-not-11 (leb g mostGap) _ _ (λ e. omega arith)
     (after-not-11 (leb (length (s .places)) limit) _ _ (λ e. omega arith)
     (after-not-11 (goodMarks s) _ _ (λ e. omega arith)
     (after-not-11 (leb (length (s .places)) shortest) _ _ (λ e. omega arith)
-    (after-not-11 (leb named lent) _ _ (λ e. omega arith) (λ e. omega arith)))))
+    (after-not-11 (leb named lent) _ _ (λ e. omega arith) (λ e. omega arith))))))

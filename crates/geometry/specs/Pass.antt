@@ -1,12 +1,20 @@
--- What the three passes share: "passes, answer: 9 an answer list shorter than the count"; "passes, work area: 10 shorter than
--- named"; and lent memory afterwards.
+-- What the three passes share: the gap; "passes, answer: 9 an answer list shorter than the count"; "passes, work area: 10 shorter
+-- than named"; and lent memory afterwards.
 use Prim.Native.Nat.{ℕ}
 use mathlib.Core.List.{List, [], _∷_, _++_}
 use lib.Dec.{leb}
 use lib.ListN.{length, drop, replicate}
 use Rattle.geometry.specs.Strip.{Strip}
-use Rattle.geometry.specs.Refusal.{Check, Verdict, accepted, refused, firstFailure, listTooShort, workTooShort}
+use Rattle.geometry.specs.Refusal.{Check, Verdict, accepted, refused, firstFailure, gapTooWide, listTooShort, workTooShort}
 use Rattle.geometry.specs.Entry.{entryChecks}
+
+-- "The passes take a gap, 0 to 8 dots." (document 02, P2)
+abbrev pub mostGap : ℕ
+mostGap = 8
+
+-- "12, gap over 8, tested by the passes right after 6"
+abbrev pub gapChecks : ℕ → List Check
+gapChecks g = record { passes = leb g mostGap; otherwise = gapTooWide } ∷ []
 
 -- 9 and 10 for so many marks: the shortest answer list and the work area have the lengths shortest and lent, and the part of the work
 -- area that document 01 names has the length named
@@ -14,9 +22,10 @@ abbrev pub lentChecks : ℕ → ℕ → ℕ → ℕ → List Check
 lentChecks marks shortest named lent =
     record { passes = leb marks shortest; otherwise = listTooShort } ∷ record { passes = leb named lent; otherwise = workTooShort } ∷ []
 
--- checks 6 to 10 of a pass that takes at most limit marks
-unfoldable pub passVerdict : ℕ → Strip → ℕ → ℕ → ℕ → Verdict
-passVerdict limit s shortest named lent = firstFailure (entryChecks limit s ++ lentChecks (length (s .places)) shortest named lent)
+-- checks 6, 12 and 7 to 10 of a pass that takes at most limit marks, at a gap of g dots
+unfoldable pub passVerdict : ℕ → Strip → ℕ → ℕ → ℕ → ℕ → Verdict
+passVerdict limit s g shortest named lent =
+    firstFailure (entryChecks (gapChecks g) limit s ++ lentChecks (length (s .places)) shortest named lent)
 
 -- "unchanged beyond their used part": a lent list whose used part holds xs
 abbrev pub written {ℓ} : {A : Type ℓ} → List A → List A → List A
@@ -26,7 +35,7 @@ written xs old = xs ++ drop (length xs) old
 abbrev pub cleared {ℓ} : {A : Type ℓ} → ℕ → A → List A → List A
 cleared named zeroValue old = replicate named zeroValue ++ drop named old
 
--- "Once checks 6 to 10 are passed, the named part of the work area ends as zeros, also at refusal 11; the rest of it is unchanged."
+-- "Once checks 6 to 10 are passed", and with them 12, "the named part of the work area ends as zeros, also at refusal 11; the rest of it is unchanged."
 abbrev pub workAfter {ℓ} : {A : Type ℓ} → ℕ → A → Verdict → List A → List A
 workAfter named zeroValue (refused r) old = old
 workAfter named zeroValue accepted old = cleared named zeroValue old

@@ -1,4 +1,5 @@
--- "Where the labeller says no": the refusal numbers, and "The first check that is not passed decides."
+-- "Where the labeller says no": the refusal numbers, and "The first check that is not passed decides." Document 02, P2: "12, gap over 8
+-- [..]; it and every later number join document 01's table."
 use Prim.Native.Nat.{ℕ}
 use mathlib.Core.List.{List, [], _∷_}
 use mathlib.Core.Bool.{Bool, true, false}
@@ -15,6 +16,7 @@ pub data Refusal : Type 0 where
   listTooShort : Refusal
   workTooShort : Refusal
   noPlacing : Refusal
+  gapTooWide : Refusal
 
 abbrev pub refusalNumber : Refusal → ℕ
 refusalNumber bytesEnd = 1
@@ -28,6 +30,7 @@ refusalNumber badMark = 8
 refusalNumber listTooShort = 9
 refusalNumber workTooShort = 10
 refusalNumber noPlacing = 11
+refusalNumber gapTooWide = 12
 
 pub data Verdict : Type 0 where
   accepted : Verdict

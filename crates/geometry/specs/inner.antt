@@ -1,5 +1,6 @@
 -- Definitions that no public contract names.
 pub mod At
+pub mod OnEntry
 pub mod Place
 pub mod Rising
 pub mod Machine

@@ -1,7 +1,8 @@
-// The ends of labels, in signed 16-bit numbers: an accepted place plus or minus a length stays within −30,255 to 30,255.
+// The ends of labels and the reaches of sides, in signed 16-bit numbers: an accepted place plus or minus a length stays within −30,255
+// to 30,255, and the gap adds at most 8 to that.
 ghost use mathlib.Core.Path.{_≡_};
 ghost use mathlib.Core.Bool.{true};
-ghost use Prim.Native.Nat.{_+_, _-_};
+ghost use Prim.Native.Nat.{_+_, _-_, _<_};
 ghost use Rattle.geometry.specs.Dot.{dot};
 ghost use Rattle.geometry.specs.Mark.{placeInRange};
 
@@ -16,10 +17,11 @@ pub fn left_end(place: i16, length: u8) -> i16
     place - length as i16
 }
 
-// The right end of a label to the right of its mark.
-pub fn right_end(place: i16, length: u8) -> i16
-    requires { ⌜ placeInRange place ≡ true ⌝ }
-    ensures { λ r. ⌜ dot r ≡ dot place + length ⌝ }
+// So many dots further right: from its mark's place the right end of a label that lies to the right, and from a right end, by the gap,
+// where the next label of that side may begin.
+pub fn further(from: i16, dots: u8) -> i16
+    requires { ⌜ dot from + dots < 65536 ⌝ }
+    ensures { λ r. ⌜ dot r ≡ dot from + dots ⌝ }
 {
-    place + length as i16
+    from + dots as i16
 }

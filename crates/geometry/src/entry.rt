@@ -1,17 +1,21 @@
-// The checks on entry: 6 mark lists of unequal length, then 7 too many marks, then 8 a value out of range or places not rising.
+// The checks on entry: 6 mark lists of unequal length, then 12 a gap over 8, which only the passes test, then 7 too many marks, then 8 a
+// value out of range or places not rising.
 ghost use mathlib.Core.Path.{_≡_};
 ghost use lib.Signed.{ltZ};
 ghost use Rattle.geometry.specs.Lists.{every};
 ghost use Rattle.geometry.specs.Mark.{placeInRange, lengthInRange, weightInRange, rising};
 ghost use Rattle.geometry.specs.Strip.{strip};
-ghost use Rattle.geometry.specs.Entry.{sameLengths, goodPlaces, goodLabels, goodMarks, entry};
-ghost use Rattle.geometry.specs.Pass.{passVerdict};
-ghost use Rattle.geometry.specs.Refusal.{numberOf};
+ghost use Rattle.geometry.specs.Entry.{sameLengths, goodPlaces, goodLabels, goodMarks, listsChecks};
+ghost use Rattle.geometry.specs.Pass.{gapChecks, passVerdict};
+ghost use Rattle.geometry.specs.Refusal.{numberOf, firstFailure};
+ghost use Rattle.geometry.specs.inner.OnEntry.{FirstNumber, NumberOnEntry};
 use crate::limits::LEAST_PLACE;
+use crate::limits::MOST_GAP;
 use crate::limits::MOST_LENGTH;
 use crate::limits::MOST_PLACE;
 use crate::limits::MOST_WEIGHT;
 use crate::refusal::BAD_MARK;
+use crate::refusal::GAP_TOO_WIDE;
 use crate::refusal::LIST_TOO_SHORT;
 use crate::refusal::LISTS_UNEQUAL;
 use crate::refusal::TOO_MANY_MARKS;
@@ -121,13 +125,45 @@ fn good_marks(places: &[i16], lengths: &[u8], weights: &[u16]) -> bool
     good_places(places) && good_labels(lengths, weights)
 }
 
-// The number of the first check on entry that the strip does not pass, 0 if it passes all, for a call that takes at most
-// `limit` marks.
-pub fn check_marks(places: &[i16], lengths: &[u8], weights: &[u16], limit: usize) -> u8
-    ensures { λ r. ⌜ r ≡ numberOf (entry limit (strip (now (places .entry)) (now (lengths .entry)) (now (weights .entry)))) ⌝ }
+// 6 for lists of unequal length, else 0.
+fn check_lists(places: &[i16], lengths: &[u8], weights: &[u16]) -> u8
+    ensures { λ r. ⌜ r ≡ numberOf (firstFailure (listsChecks (strip (now (places .entry)) (now (lengths .entry)) (now (weights .entry))))) ⌝ }
 {
     if !same_lengths(places, lengths, weights) {
         return LISTS_UNEQUAL;
+    }
+    0
+}
+
+// 12 for a gap that is too wide, else 0.
+fn check_gap(gap: u8) -> u8
+    ensures { λ r. ⌜ r ≡ numberOf (firstFailure (gapChecks gap)) ⌝ }
+{
+    if MOST_GAP < gap {
+        return GAP_TOO_WIDE;
+    }
+    0
+}
+
+// Of two numbers the first that is a refusal, 0 if neither is.
+fn first_refusal(first: u8, second: u8) -> u8
+    ensures { λ r. ⌜ FirstNumber first second r ⌝ }
+{
+    if first != 0 {
+        return first;
+    }
+    second
+}
+
+// The number of the first check on entry that is not passed, 0 if all are, for a call that takes at most `limit` marks. `own` is what
+// the checks that the call makes right after 6 have given; a call that makes none hands over 0.
+pub fn check_marks(places: &[i16], lengths: &[u8], weights: &[u16], own: u8, limit: usize) -> u8
+    ensures { λ r. ⌜ NumberOnEntry own limit (strip (now (places .entry)) (now (lengths .entry)) (now (weights .entry))) r ⌝ }
+{
+    let lists = check_lists(places, lengths, weights);
+    let refused = first_refusal(lists, own);
+    if refused != 0 {
+        return refused;
     }
     if limit < places.len() {
         return TOO_MANY_MARKS;
@@ -138,12 +174,13 @@ pub fn check_marks(places: &[i16], lengths: &[u8], weights: &[u16], limit: usize
     0
 }
 
-// The same with the checks on lent memory behind them: 9 where the shortest answer list, of `shortest` elements, is shorter than
+// The same at a gap, with the checks on lent memory behind them: 9 where the shortest answer list, of `shortest` elements, is shorter than
 // the count of marks, then 10 where the work area, of `lent` elements, is shorter than `named`.
 pub fn check_pass(
     places: &[i16],
     lengths: &[u8],
     weights: &[u16],
+    gap: u8,
     limit: usize,
     shortest: usize,
     named: usize,
@@ -151,9 +188,9 @@ pub fn check_pass(
 ) -> u8
     ensures { λ r. ⌜ r ≡ numberOf (passVerdict limit
         (strip (now (places .entry)) (now (lengths .entry)) (now (weights .entry)))
-        shortest named lent) ⌝ }
+        gap shortest named lent) ⌝ }
 {
-    let entry = check_marks(places, lengths, weights, limit);
+    let entry = check_marks(places, lengths, weights, check_gap(gap), limit);
     if entry != 0 {
         return entry;
     }

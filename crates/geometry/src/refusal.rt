@@ -20,3 +20,5 @@ pub const LIST_TOO_SHORT: u8 = 9;
 pub const WORK_TOO_SHORT: u8 = 10;
 
 pub const NO_PLACING: u8 = 11;
+
+pub const GAP_TOO_WIDE: u8 = 12;

@@ -176,7 +176,7 @@ pub fn write(places: &[i16], lengths: &[u8], weights: &[u16], job: &mut [u8]) ->
         (strip (now (places .entry)) (now (lengths .entry)) (now (weights .entry))) (now (job .entry))
         (now (job .exit)) r ⌝ }
 {
-    let number = check_marks(places, lengths, weights, MOST_MARKS);
+    let number = check_marks(places, lengths, weights, 0, MOST_MARKS);
     if number != 0 {
         return Written { number, length: 0 };
     }

@@ -21,7 +21,7 @@ use Rattle.job.specs.Calls.{shortest, readInto, ReadContract}
 use Rattle.job.specs.declared.answer.Read.{Read}
 use Rattle.job.proofs.Outcomes.{never, given-same}
 use Rattle.job.proofs.ReadStrip.{ReadStrip, read-refused}
-use Rattle.listing.specs.Text.{decimal, refusedWord, lineEnd, marksLine, refusedLine, stripLines, listingOf}
+use Rattle.listing.specs.Text.{listingGap, decimal, refusedWord, lineEnd, marksLine, refusedLine, stripLines, listingOf}
 use Rattle.listing.specs.Listing.{saidBy, SlidesSomehow, Chosen, TextOf}
 use Rattle.listing.specs.inner.Append.{Appended}
 use Rattle.listing.specs.inner.Lines.{StripLines, Listing}
@@ -69,12 +69,12 @@ module _ (job : List ℕ) (lent : Strip) (roomy : shortest lent ≡ mostMarks) w
     good-marks = rw (m .used) (m .takes)
 
     -- it slides at whole dots exactly if it slides at some denominator
-    slides-exactly : (slidesWhole 0 (marksOf (m .found)) ≡ true) ↔ SlidesSomehow (m .found)
+    slides-exactly : (slidesWhole listingGap (marksOf (m .found)) ≡ true) ↔ SlidesSomehow (m .found)
     slides-exactly =
         let marks = marksOf (m .found) in
         let rising = accepted-rising mostMarks (m .found) (entry-accepted mostMarks (m .found) (m .takes)) in (
-          λ t. record { denominator = 1; whole = omega arith; placing = whole-slides 0 marks t },
-          λ a. slides-whole 0 (a .denominator) marks (a .whole) rising (a .placing),
+          λ t. record { denominator = 1; whole = omega arith; placing = whole-slides listingGap marks t },
+          λ a. slides-whole listingGap (a .denominator) marks (a .whole) rising (a .placing),
         )
 
     -- its text is the count and the lines below it
@@ -83,7 +83,7 @@ module _ (job : List ℕ) (lent : Strip) (roomy : shortest lent ≡ mostMarks) w
     unfolding listingOf
     accepted-listing before middle after next end p lines =
         let s = m .found in
-        let fits = slidesWhole 0 (marksOf s) in
+        let fits = slidesWhole listingGap (marksOf s) in
         let q : StripLines s middle next after end = rw (m .used) at lines in
         stands-there job before after (marksLine (length (s .places)) ++ stripLines s fits (q .out)) end
         (appended-is (appended-join p (q .appended)) (ap (λ (n : ℕ). marksLine n ++ stripLines s fits (q .out)) (m .count-is)))

@@ -28,6 +28,7 @@ use Rattle.job.specs.Number.{Bytes}
 use Rattle.job.specs.Outcome.{Outcome, given, refusal}
 use Rattle.job.proofs.RoundTrips.{read-accepted}
 use Rattle.listing.specs.Text.{
+  listingGap,
   digitAt,
   decimal,
   spaced,
@@ -80,9 +81,11 @@ tail-most (some ps) n few = omega (arith, spaced-most (map code ps), length-map 
 -- the full line, of at most 4,000 marks
 full-most : (s : Strip) → Accepted mostMarks s → length (fullLine (marksOf s)) ≤ 24010
 full-most s good =
-    let placed : (ps : List Position) → firstPlacing 0 (marksOf s) ≡ some ps → length ps ≡ length (s .places) =
-    λ ps e. free-length 0 (marksOf s) ps (found-placing 0 (marksOf s) ps e .is-free) ∙ length-marks s (good .same-lengths) (good .same-weights) in
-    let tail = tail-most (firstPlacing 0 (marksOf s)) mostMarks (λ ps e. omega (arith, placed ps e, good .few)) in
+    let placed : (ps : List Position) → firstPlacing listingGap (marksOf s) ≡ some ps → length ps ≡ length (s .places) =
+    λ ps e.
+    free-length listingGap (marksOf s) ps (found-placing listingGap (marksOf s) ps e .is-free)
+    ∙ length-marks s (good .same-lengths) (good .same-weights) in
+    let tail = tail-most (firstPlacing listingGap (marksOf s)) mostMarks (λ ps e. omega (arith, placed ps e, good .few)) in
     simp length-append (omega (arith, tail))
 
 -- the other lines one by one
@@ -113,7 +116,7 @@ module _ (job text : List ℕ) (bytes : Bytes job) (t : TextOf job text) where
     few-out : length (s .places) ≤ mostShort → length (t .out) ≤ mostShort
     few-out short =
         let chosen = t .out-chosen s says short in
-        let marks = free-length 0 (marksOf s) (chosen .choice) (chosen .overlap-free) in
+        let marks = free-length listingGap (marksOf s) (chosen .choice) (chosen .overlap-free) in
         let few = few-left-out (s .weights) (chosen .choice) in
         omega (arith, few, ap length (chosen .left-out), marks, length-marks s (good .same-lengths) (good .same-weights))
 
@@ -122,13 +125,13 @@ module _ (job text : List ℕ) (bytes : Bytes job) (t : TextOf job text) where
     strip-most =
         let full = fullLine (marksOf s) in
         let slide = slideLine (t .fits) in
-        let best = bestLine (bestSum 0 (marksOf s)) (sumList (s .weights)) in
+        let best = bestLine (bestSum listingGap (marksOf s)) (sumList (s .weights)) in
         let out = outLine (t .out) in
         by-leb (length (s .places)) mostShort
         (λ is-short. length (full ++ cond is-short (shortLines s (t .fits) (t .out)) tooLongLines) ≤ 24500)
         (λ short.
         let out-within : length out ≤ 369 = omega (arith, out-most (t .out), few-out short) in
-        let two = joined-most slide best (slide-most (t .fits)) (best-most (bestSum 0 (marksOf s)) (sumList (s .weights))) in
+        let two = joined-most slide best (slide-most (t .fits)) (best-most (bestSum listingGap (marksOf s)) (sumList (s .weights))) in
         let three = joined-most (slide ++ best) out two out-within in
         within (joined-most full (slide ++ best ++ out) (full-most s good) three) (lit≤ tt))
         (λ long. within (joined-most full tooLongLines (full-most s good) too-long-most) (lit≤ tt))

@@ -16,7 +16,7 @@ use Rattle.geometry.specs.Refusal.{Verdict, accepted, refused, numberOf, afterC
 use Rattle.best.specs.LeftOut.{leftOut}
 use Rattle.job.specs.Outcome.{Outcome, given}
 use Rattle.job.specs.Decode.{decode}
-use Rattle.listing.specs.Text.{listingOf}
+use Rattle.listing.specs.Text.{listingGap, listingOf}
 use Rattle.listing.specs.declared.answer.Listed.{Listed}
 
 -- what a job says, read with room for the most marks
@@ -27,14 +27,14 @@ saidBy job = decode mostMarks job
 pub record SlidesSomehow (s : Strip) : Type 0 where
   pub denominator : ℕ
   pub whole : 1 ≤ denominator
-  pub placing : Slides 0 denominator (marksOf s)
+  pub placing : Slides listingGap denominator (marksOf s)
 
 -- what is open: an overlap-free choice of the greatest sum; "the listing's out line shows" its left-out marks "in that order", by
 -- falling weight and equal weights by rising mark number (document 02, P1)
 pub record Chosen (s : Strip) (out : List ℕ) : Type 0 where
   pub choice : List Position
-  pub overlap-free : free 0 (marksOf s) choice ≡ true
-  pub greatest : sumOf (marksOf s) choice ≡ bestSum 0 (marksOf s)
+  pub overlap-free : free listingGap (marksOf s) choice ≡ true
+  pub greatest : sumOf (marksOf s) choice ≡ bestSum listingGap (marksOf s)
   pub left-out : out ≡ leftOut (s .weights) choice
 
 -- the text of a job

@@ -13,6 +13,10 @@ use Rattle.geometry.specs.Placing.{firstPlacing, bestSum}
 use Rattle.geometry.specs.Refusal.{Refusal, refusalNumber, tooManyMarks}
 use Rattle.job.specs.Outcome.{Outcome, given, refusal}
 
+-- "The listing program uses gap 1" (document 02, P2)
+abbrev pub listingGap : ℕ
+listingGap = 1
+
 -- the fixed words, as bytes
 abbrev pub marksWord : List ℕ
 marksWord = 109 ∷ 97 ∷ 114 ∷ 107 ∷ 115 ∷ 32 ∷ []  -- "marks "
@@ -68,7 +72,7 @@ fullTail none = 32 ∷ noneWord
 fullTail (some ps) = spaced (map code ps)
 
 abbrev pub fullLine : List Mark → List ℕ
-fullLine ms = fullWord ++ fullTail (firstPlacing 0 ms) ++ lineEnd
+fullLine ms = fullWord ++ fullTail (firstPlacing listingGap ms) ++ lineEnd
 
 -- ""fits" or "none""
 abbrev pub slideLine : Bool → List ℕ
@@ -99,7 +103,7 @@ tooLongLines = slideWord ++ tooLong ++ bestWord ++ tooLong
 
 -- the lines below the full line of a strip of at most 60 marks; whether the slide pass fits and the left-out list are handed in
 abbrev pub shortLines : Strip → Bool → List ℕ → List ℕ
-shortLines s fits out = slideLine fits ++ bestLine (bestSum 0 (marksOf s)) (sumList (s .weights)) ++ outLine out
+shortLines s fits out = slideLine fits ++ bestLine (bestSum listingGap (marksOf s)) (sumList (s .weights)) ++ outLine out
 
 -- the lines of a strip below its count
 abbrev pub stripLines : Strip → Bool → List ℕ → List ℕ

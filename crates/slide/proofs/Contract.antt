@@ -5,7 +5,7 @@ use mathlib.Core.Path.{_≡_, refl, sym, _∙_, ap, ap₂}
 use mathlib.Core.Bool.{Bool, true, false}
 use mathlib.Core.Logic.{_↔_}
 use mathlib.Core.List.{List, [], _∷_, map}
-use Prim.Native.Nat.{ℕ, min, _≤_, _<_}
+use Prim.Native.Nat.{ℕ, min, _<_}
 use native.Mathlib.Omega.{arith}
 use lib.ListN.{length}
 use Rattle.geometry.specs.Dot.{dot, emptyReach}
@@ -17,7 +17,7 @@ use Rattle.geometry.specs.Refusal.{Verdict, accepted, refused, numberOf, refusa
 use Rattle.geometry.specs.inner.Place.{placeOf}
 use Rattle.geometry.specs.inner.Rising.{Rising}
 use Rattle.geometry.specs.Pass.{workAfter}
-use Rattle.geometry.proofs.Accepted.{Accepted, pass-accepted, accepted-rising, length-marks}
+use Rattle.geometry.proofs.Accepted.{Accepted, PassAccepted, pass-accepted, accepted-rising, length-marks}
 use Rattle.geometry.proofs.Places.{dot-of-place}
 use Rattle.geometry.proofs.Split.{by-bool}
 use Rattle.geometry.proofs.Verdicts.{zero-accepted}
@@ -49,101 +49,110 @@ eleven-misses true n e = (λ eleven. absurd (omega arith), λ no. absurd (mathli
 eleven-misses false n e = (λ _. refl, λ _. e)
 
 -- without a placing at any denominator there is none at whole dots
-not-whole : (ms : List Mark) → NoPlacing ms → slidesWhole 0 ms ≡ false
-not-whole ms none =
-    by-bool (slidesWhole 0 ms) (λ t. slidesWhole 0 ms ≡ t → slidesWhole 0 ms ≡ false)
-    (λ _ e. absurd (none 1 (omega arith) (whole-slides 0 ms e))) (λ _ e. e) refl
+not-whole : (g : ℕ) (ms : List Mark) → NoPlacing g ms → slidesWhole g ms ≡ false
+not-whole g ms none =
+    by-bool (slidesWhole g ms) (λ t. slidesWhole g ms ≡ t → slidesWhole g ms ≡ false)
+    (λ _ e. absurd (none 1 (omega arith) (whole-slides g ms e))) (λ _ e. e) refl
 
 -- edges go out as places and come back as dots
 dots-back : (es : List ℕ) → map dot (map placeOf es) ≡ es
 dots-back [] = refl
 dots-back (e ∷ es) = ap₂ _∷_ (dot-of-place e) (dots-back es)
 
-module _ (s : Strip) (entry : SlideLent) where
-  -- checks 6 to 10, passed
-  passed : slideChecks s entry ≡ accepted
-      → Accepted mostShort s × (length (s .places) ≤ min (length (entry .sides)) (length (entry .edges))) × (workNamed ≤ length (entry .work))
-  passed e = pass-accepted mostShort s (min (length (entry .sides)) (length (entry .edges))) workNamed (length (entry .work)) e
+module _ (s : Strip) (g : ℕ) (entry : SlideLent) where
+  -- checks 6, 12 and 7 to 10, passed
+  abbrev Passed : Type 0
+  Passed = PassAccepted mostShort s g (min (length (entry .sides)) (length (entry .edges))) workNamed (length (entry .work))
 
-  -- what the inner functions ask of the lists
-  checked : Accepted mostShort s → Checked (s .places) (s .lengths)
-  checked good =
-      record { same-count = sym (good .same-lengths); few = good .few; places-good = good .places-good; lengths-good = good .lengths-good }
+  passed : slideChecks s g entry ≡ accepted → Passed
+  passed e = pass-accepted mostShort s g (min (length (entry .sides)) (length (entry .edges))) workNamed (length (entry .work)) e
 
-  module _ (n : ℕ) (n-is : n ≡ numberOf (slideChecks s entry)) where
+  -- what the inner functions ask of the lists and the gap
+  checked : Passed → Checked (s .places) (s .lengths) g
+  checked p =
+      let good = p .entered in
+      record {
+        same-count = sym (good .same-lengths);
+        few = good .few;
+        places-good = good .places-good;
+        lengths-good = good .lengths-good;
+        gap-narrow = p .gap-narrow;
+      }
+
+  module _ (n : ℕ) (n-is : n ≡ numberOf (slideChecks s g entry)) where
     -- they are what the answer asks
-    pub answer-ready : n ≡ 0 → AnswerReady (s .places) (s .lengths) entry
+    pub answer-ready : n ≡ 0 → AnswerReady (s .places) (s .lengths) g entry
     answer-ready z =
-        let p = passed (zero-accepted (slideChecks s entry) (sym n-is ∙ z)) in
-        record { checked = checked (p .0); sides-long = omega (arith, p .1); edges-long = omega (arith, p .1); work-long = p .2 }
+        let p = passed (zero-accepted (slideChecks s g entry) (sym n-is ∙ z)) in
+        record { checked = checked p; sides-long = omega (arith, p .list-long); edges-long = omega (arith, p .list-long); work-long = p .work-long }
 
     -- a refusal by the checks
-    pub refused-right : 0 < n → SlideContract s entry entry n
+    pub refused-right : 0 < n → SlideContract s g entry entry n
     refused-right positive =
-        let stands : numberOf (slideChecks s entry) ≡ 0 → ⊥ = λ z. omega (arith, n-is ∙ z) in
+        let stands : numberOf (slideChecks s g entry) ≡ 0 → ⊥ = λ z. omega (arith, n-is ∙ z) in
         record {
-          number-is = n-is ∙ sym (refusal-stands (slideChecks s entry) (slidesWhole 0 (marksOf s)) stands);
+          number-is = n-is ∙ sym (refusal-stands (slideChecks s g entry) (slidesWhole g (marksOf s)) stands);
           none-exactly = λ a. absurd (stands (ap numberOf a));
           where-placed = λ z. absurd (omega arith);
           where-refused = λ _. record { sides-unchanged = refl; edges-unchanged = refl };
-          work-is = sym (work-stands (slideChecks s entry) (entry .work) stands);
+          work-is = sym (work-stands (slideChecks s g entry) (entry .work) stands);
         }
 
   -- an answer past the checks
-  module _ (past : slideChecks s entry ≡ accepted) (exit : SlideLent) (n : ℕ) (answer : Answer (s .places) (s .lengths) entry exit n) where
+  module _ (past : slideChecks s g entry ≡ accepted) (exit : SlideLent) (n : ℕ) (answer : Answer (s .places) (s .lengths) g entry exit n) where
     -- the strip is accepted, so its marks rise
     good : Accepted mostShort s
-    good = passed past .0
+    good = passed past .entered
 
     rise : Rising (marksOf s)
     rise = accepted-rising mostShort s good
 
     -- the sides of the walk
     abbrev sides : List Side
-    sides = walkSides (s .places) (s .lengths)
+    sides = walkSides (s .places) (s .lengths) g
 
     -- weights change neither their edges nor the number
-    same-edges : leftmostEdges 0 (plainMarks (s .places) (s .lengths)) sides ≡ leftmostEdges 0 (marksOf s) sides
-    same-edges = plain-edges s (good .same-lengths) (good .same-weights) sides
+    same-edges : leftmostEdges g (plainMarks (s .places) (s .lengths)) sides ≡ leftmostEdges g (marksOf s) sides
+    same-edges = plain-edges s (good .same-lengths) (good .same-weights) g sides
 
-    number-is : n ≡ numberOf (slideVerdict accepted (slidesWhole 0 (marksOf s)))
-    number-is = rw (← plain-fits s (good .same-lengths) (good .same-weights)) (answer .number-is)
+    number-is : n ≡ numberOf (slideVerdict accepted (slidesWhole g (marksOf s)))
+    number-is = rw (← plain-fits s (good .same-lengths) (good .same-weights) g) (answer .number-is)
 
     one-side-each : length sides ≡ length (marksOf s)
     one-side-each =
-        walk-length 0 emptyReach emptyReach (plainMarks (s .places) (s .lengths))
-        ∙ marks-length (s .places) (s .lengths) (checked good)
+        walk-length g emptyReach emptyReach (plainMarks (s .places) (s .lengths))
+        ∙ marks-length (s .places) (s .lengths) g (checked (passed past))
         ∙ sym (length-marks s (good .same-lengths) (good .same-weights))
 
     -- the leftmost edges of the walk's sides are allowed
-    none-beyond : fitsPlain (s .places) (s .lengths) ≡ true → noneBeyond (marksOf s) (leftmostEdges 0 (marksOf s) sides) ≡ true
+    none-beyond : fitsPlain (s .places) (s .lengths) g ≡ true → noneBeyond (marksOf s) (leftmostEdges g (marksOf s) sides) ≡ true
     none-beyond fits =
         let marks : List Mark = plainMarks (s .places) (s .lengths) in
         rw (← same-edges)
-        (sym (plain-beyond s (good .same-lengths) (good .same-weights) (leftmostEdges 0 marks sides))
-        ∙ walk-allowed 0 emptyReach emptyReach marks (marks-inside (s .places) (s .lengths) (checked good)) (omega arith) fits)
+        (sym (plain-beyond s (good .same-lengths) (good .same-weights) (leftmostEdges g marks sides))
+        ∙ walk-allowed g emptyReach emptyReach marks (marks-inside (s .places) (s .lengths) g (checked (passed past))) (omega arith) fits)
 
     -- number 0: the answer lists hold a placing
-    placed : n ≡ 0 → Placed (marksOf s) entry exit
+    placed : n ≡ 0 → Placed g (marksOf s) entry exit
     placed z =
-        let fits = zero-slides (fitsPlain (s .places) (s .lengths)) n (answer .number-is) z in
+        let fits = zero-slides (fitsPlain (s .places) (s .lengths) g) n (answer .number-is) z in
         record {
           sides = sides;
           one-for-each = one-side-each;
-          placing = leftmost-placing 0 (marksOf s) sides one-side-each (none-beyond fits);
+          placing = leftmost-placing g (marksOf s) sides one-side-each (none-beyond fits);
           sides-written = answer .where-placed z .sides;
-          edges = map placeOf (leftmostEdges 0 (plainMarks (s .places) (s .lengths)) sides);
-          leftmost = dots-back (leftmostEdges 0 (plainMarks (s .places) (s .lengths)) sides) ∙ same-edges;
+          edges = map placeOf (leftmostEdges g (plainMarks (s .places) (s .lengths)) sides);
+          leftmost = dots-back (leftmostEdges g (plainMarks (s .places) (s .lengths)) sides) ∙ same-edges;
           edges-written = answer .where-placed z .edges;
         }
 
     -- the contract past the checks
-    pub answered-right : SlideContract s entry exit n
+    pub answered-right : SlideContract s g entry exit n
     answered-right =
-        let misses = eleven-misses (slidesWhole 0 (marksOf s)) n number-is in
+        let misses = eleven-misses (slidesWhole g (marksOf s)) n number-is in
         record {
           number-is = rw past number-is;
-          none-exactly = λ _. (λ eleven. none-slides 0 (marksOf s) rise (misses .0 eleven), λ none. misses .1 (not-whole (marksOf s) none));
+          none-exactly = λ _. (λ eleven. none-slides g (marksOf s) rise (misses .0 eleven), λ none. misses .1 (not-whole g (marksOf s) none));
           where-placed = placed;
           where-refused = answer .where-none;
           work-is = rw past (answer .work-cleared);

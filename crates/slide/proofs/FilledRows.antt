@@ -11,7 +11,7 @@ use lib.ListN.{length, getD, set, length-set}
 use lib.Seq.{getD-drop, getD-set-same, getD-set-other, drop-set-lt}
 use Rattle.geometry.specs.Mark.{Mark}
 use Rattle.geometry.proofs.Split.{by-leb, lt-or-ge}
-use Rattle.slide.specs.inner.Room.{slidBy, furthest, ownSide, otherSide, roomBefore}
+use Rattle.slide.specs.inner.Room.{slidBy, reachAt, furthest, ownSide, otherSide, roomBefore}
 use Rattle.slide.specs.inner.Table.{rowCells, rowFrom, FilledTo, rowBefore}
 use Rattle.slide.proofs.FurthestSlide.{furthest-within, furthest-same, furthest-resumed}
 
@@ -71,48 +71,55 @@ module _ (m : Mark) (t : ℕ) (f h : ℕ → ℕ) (short : m .labelLength < m .p
   pub room-same : roomBefore m t f ≡ roomBefore m t h
   room-same = ap₂ max own-same (ap (otherSide m) (furthest-same f h t (suc (m .labelLength)) (λ d l. same d (omega arith))))
 
--- d cells of a row are filled from the row of the next mark, and the scan for the next cell may start at this slide
-pub record Scanned (old new : List ℕ) (row place : ℕ) (m : Mark) (d slides : ℕ) : Type 0 where
-  pub filled : FilledTo old new row d (rowBefore place m (rowFrom old (row + rowCells)))
-  pub within : slides ≤ m .labelLength + 1
+-- d cells of the row of m are filled from the row of the next mark k, and the scan for the next cell may start at this slide
+pub record Scanned (g : ℕ) (old new : List ℕ) (row : ℕ) (m k : Mark) (d slides : ℕ) : Type 0 where
+  pub filled : FilledTo old new row d (rowBefore g m k (rowFrom old (row + rowCells)))
+  pub within : slides ≤ k .labelLength + 1
   pub left :
-      furthest (rowFrom old (row + rowCells)) (place + d) (suc (m .labelLength)) ≡ furthest (rowFrom old (row + rowCells)) (place + d) slides
+      furthest (rowFrom old (row + rowCells)) (reachAt g m d) (suc (k .labelLength))
+      ≡ furthest (rowFrom old (row + rowCells)) (reachAt g m d) slides
 
 -- no cell yet, and the scan starts at the label's length
-pub scanned-none : (old : List ℕ) (row place : ℕ) (m : Mark) (d slides : ℕ) → d ≡ 0 → slides ≡ suc (m .labelLength)
-    → Scanned old old row place m d slides
-scanned-none old row place m d slides none all =
-    record { filled = filled-none _ _ _ _ none; within = omega arith; left = ap (furthest (rowFrom old (row + rowCells)) (place + d)) (sym all) }
+pub scanned-none : (g : ℕ) (old : List ℕ) (row : ℕ) (m k : Mark) (d slides : ℕ) → d ≡ 0 → slides ≡ suc (k .labelLength)
+    → Scanned g old old row m k d slides
+scanned-none g old row m k d slides none all =
+    record {
+      filled = filled-none _ _ _ _ none;
+      within = omega arith;
+      left = ap (furthest (rowFrom old (row + rowCells)) (reachAt g m d)) (sym all);
+    }
 
--- one more cell
+-- one more cell, at the reach t that the code finds for the label that slid by d
 module _
+    (g : ℕ)
     (old new : List ℕ)
-    (row place : ℕ)
-    (m : Mark)
-    (d slides found : ℕ)
-    (scanned : Scanned old new row place m d slides)
-    (found-is : found ≡ furthest (rowFrom new (row + rowCells)) (place + d) slides)
+    (row : ℕ)
+    (m k : Mark)
+    (d slides found t : ℕ)
+    (scanned : Scanned g old new row m k d slides)
+    (found-is : found ≡ furthest (rowFrom new (row + rowCells)) t slides)
   where
+    -- the scan found nothing beyond its start
+    pub found-within : found ≤ k .labelLength + 1
+    found-within = omega (arith, found-is, furthest-within (rowFrom new (row + rowCells)) t slides, scanned .within)
+
     -- the cells of the next mark, which are as they were
     abbrev cells : ℕ → ℕ
     cells = rowFrom old (row + rowCells)
 
     -- so what the scan found in them is what it would have found at the start of the row
-    found-before : found ≡ furthest cells (place + d) slides
-    found-before = found-is ∙ ap (λ (f : ℕ → ℕ). furthest f (place + d) slides) (next-row (scanned .filled))
+    found-before : t ≡ reachAt g m d → found ≡ furthest cells (reachAt g m d) slides
+    found-before t-is = found-is ∙ ap₂ (λ (f : ℕ → ℕ) (u : ℕ). furthest f u slides) (next-row (scanned .filled)) t-is
 
-    pub found-within : found ≤ m .labelLength + 1
-    found-within = omega (arith, found-before, furthest-within cells (place + d) slides, scanned .within)
-
-    pub scanned-more : (own other v next : ℕ) → own ≡ ownSide m (place + d) (rowFrom new (row + rowCells)) → other ≡ otherSide m found
-        → v ≡ max own other → next ≡ d + 1 → d < rowCells → row + d < length old → Scanned old (set new (row + d) v) row place m next found
-    scanned-more own other v next own-is other-is v-is one-more small inside =
-        let own-before : own ≡ ownSide m (place + d) cells = own-is ∙ ap (ownSide m (place + d)) (next-row (scanned .filled)) in
-        let other-before : other ≡ otherSide m (furthest cells (place + d) (suc (m .labelLength))) =
-        other-is ∙ ap (otherSide m) (found-before ∙ sym (scanned .left)) in
+    pub scanned-more : (own other v next : ℕ) → t ≡ reachAt g m d → own ≡ ownSide k t (rowFrom new (row + rowCells)) → other ≡ otherSide k found
+        → v ≡ max own other → next ≡ d + 1 → d < rowCells → row + d < length old → Scanned g old (set new (row + d) v) row m k next found
+    scanned-more own other v next t-is own-is other-is v-is one-more small inside =
+        let own-before : own ≡ ownSide k (reachAt g m d) cells = own-is ∙ ap₂ (ownSide k) t-is (next-row (scanned .filled)) in
+        let other-before : other ≡ otherSide k (furthest cells (reachAt g m d) (suc (k .labelLength))) =
+        other-is ∙ ap (otherSide k) (found-before t-is ∙ sym (scanned .left)) in
         record {
           filled = filled-more old new row d next v _ (scanned .filled) one-more small inside (v-is ∙ ap₂ max own-before other-before);
           within = found-within;
-          left = furthest-resumed cells (place + d) (place + next) (suc (m .labelLength)) (omega arith)
-              ∙ ap (furthest cells (place + next)) (scanned .left ∙ sym found-before);
+          left = furthest-resumed cells (reachAt g m d) (reachAt g m next) (suc (k .labelLength)) (omega arith)
+              ∙ ap (furthest cells (reachAt g m next)) (scanned .left ∙ sym (found-before t-is));
         }

@@ -28,36 +28,38 @@ abbrev firstTest : List ℤ → List ℕ → Bool
 firstTest places cells = eqb (length places) 0 || ltb emptyReach (getD cells 0 0)
 
 -- no marks always fit
-no-marks-fit : true ≡ slideable 0 emptyReach emptyReach []
+no-marks-fit : (g : ℕ) → true ≡ slideable g emptyReach emptyReach []
 unfolding slideable
-no-marks-fit = refl
+no-marks-fit g = refl
 
 -- the test of the first cell is whether the strip fits
-first-decides : (zs : List ℤ) (ls cells : List ℕ) → length ls ≡ length zs → Inside 0 (plainMarks zs ls) → TableHolds cells (plainMarks zs ls)
-    → firstTest zs cells ≡ fitsPlain zs ls
+first-decides : (zs : List ℤ) (ls : List ℕ) (g : ℕ) (cells : List ℕ) → length ls ≡ length zs → Inside g (plainMarks zs ls)
+    → TableHolds g cells (plainMarks zs ls) → firstTest zs cells ≡ fitsPlain zs ls g
 unfolding plainMarks
-first-decides [] ls cells same inside table = no-marks-fit
-first-decides (z ∷ zs) [] cells same inside table = absurd (omega arith)
-first-decides (z ∷ zs) (l ∷ ls) cells same inside table =
-    rw (ne-eqb (length (z ∷ zs)) 0 (omega arith), table .0 0 (omega arith)) (sym (first-cell 0 _ _ inside))
+first-decides [] ls g cells same inside table = no-marks-fit g
+first-decides (z ∷ zs) [] g cells same inside table = absurd (omega arith)
+first-decides (z ∷ zs) (l ∷ ls) g cells same inside table =
+    rw (ne-eqb (length (z ∷ zs)) 0 (omega arith), table .0 0 (omega arith)) (sym (first-cell g _ _ inside))
 
 -- a strip past the checks, its table filled, and the answer of the test
 module _
     (places : List ℤ)
     (lengths : List ℕ)
+    (g : ℕ)
     (entry : SlideLent)
     (filled : List ℕ)
-    (ready : AnswerReady places lengths entry)
-    (table : TableFrom (entry .work) filled 0 (plainMarks places lengths))
+    (ready : AnswerReady places lengths g entry)
+    (table : TableFrom g (entry .work) filled 0 (plainMarks places lengths))
     (t : Bool)
     (tested : t ≡ firstTest places filled)
   where
     -- the test says whether the strip fits
-    decided : t ≡ fitsPlain places lengths
-    decided = tested ∙ first-decides places lengths filled (ready .checked .same-count) (marks-inside places lengths (ready .checked)) (table .table)
+    decided : t ≡ fitsPlain places lengths g
+    decided =
+        tested ∙ first-decides places lengths g filled (ready .checked .same-count) (marks-inside places lengths g (ready .checked)) (table .table)
 
     -- where it does, the walk may begin
-    pub walk-ready : t ≡ true → WalkReady places lengths (slideLent (entry .sides) (entry .edges) filled)
+    pub walk-ready : t ≡ true → WalkReady places lengths g (slideLent (entry .sides) (entry .edges) filled)
     walk-ready fits =
         record {
           checked = ready .checked;
@@ -74,11 +76,11 @@ module _
       work-cleared = cleared-again workNamed 0 (exit .work) filled (entry .work) clear (table .beyond)
 
       -- the number by the answer of the test
-      number-by : (u : Bool) → t ≡ u → numberOf (slideVerdict accepted u) ≡ numberOf (slideVerdict accepted (fitsPlain places lengths))
+      number-by : (u : Bool) → t ≡ u → numberOf (slideVerdict accepted u) ≡ numberOf (slideVerdict accepted (fitsPlain places lengths g))
       number-by u is = ap (λ (v : Bool). numberOf (slideVerdict accepted v)) (sym is ∙ decided)
 
       -- the two cases: 11 with the answer lists unchanged, and 0 with what the walk wrote
-      pub no-answer : t ≡ false → number ≡ refusalNumber noPlacing → AnswersUnchanged entry exit → Answer places lengths entry exit number
+      pub no-answer : t ≡ false → number ≡ refusalNumber noPlacing → AnswersUnchanged entry exit → Answer places lengths g entry exit number
       no-answer misses eleven unchanged =
           record {
             number-is = eleven ∙ number-by false misses;
@@ -87,7 +89,7 @@ module _
             work-cleared = work-cleared;
           }
 
-      pub some-answer : t ≡ true → number ≡ 0 → Walked places lengths entry exit → Answer places lengths entry exit number
+      pub some-answer : t ≡ true → number ≡ 0 → Walked places lengths g entry exit → Answer places lengths g entry exit number
       some-answer fits zero-number walked =
           record {
             number-is = zero-number ∙ number-by true fits;

@@ -12,6 +12,7 @@ use lib.ListN.{length, getD, drop, drop-of-length-le}
 use Rattle.geometry.specs.Dot.{dot}
 use Rattle.geometry.specs.Lists.{every}
 use Rattle.geometry.specs.Mark.{Mark, placeInRange, lengthInRange, mostLength}
+use Rattle.geometry.specs.Pass.{mostGap}
 use Rattle.geometry.proofs.Split.{and-fst, and-snd}
 use Rattle.geometry.proofs.Accepted.{every-at, first-good, rest-good}
 use Rattle.geometry.proofs.Dots.{range-dots}
@@ -45,24 +46,25 @@ plain-at (z ∷ zs) [] i e h = absurd (omega arith)
 plain-at (z ∷ zs) (l ∷ ls) zero e h = refl
 plain-at (z ∷ zs) (l ∷ ls) (suc i) e h = plain-at zs ls i (omega arith) (omega arith)
 
--- every label lies inside the coordinates
-plain-inside : (zs : List ℤ) (ls : List ℕ) → every placeInRange zs ≡ true → every lengthInRange ls ≡ true → Inside 0 (plainMarks zs ls)
+-- every label, with a gap that is not too wide, lies inside the coordinates
+plain-inside : (zs : List ℤ) (ls : List ℕ) (g : ℕ) → every placeInRange zs ≡ true → every lengthInRange ls ≡ true → g ≤ mostGap
+    → Inside g (plainMarks zs ls)
 unfolding plainMarks
-plain-inside [] ls p q = tt
-plain-inside (z ∷ zs) [] p q = tt
-plain-inside (z ∷ zs) (l ∷ ls) p q =
+plain-inside [] ls g p q narrow = tt
+plain-inside (z ∷ zs) [] g p q narrow = tt
+plain-inside (z ∷ zs) (l ∷ ls) g p q narrow =
     let label = good-label z l (first-good placeInRange z zs p) (first-good lengthInRange l ls q) in
-    (label .left, omega arith, plain-inside zs ls (rest-good placeInRange z zs p) (rest-good lengthInRange l ls q))
+    (label .left, omega arith, plain-inside zs ls g (rest-good placeInRange z zs p) (rest-good lengthInRange l ls q) narrow)
 
 pub inside-drop : (g i : ℕ) (ms : List Mark) → Inside g ms → Inside g (drop i ms)
 inside-drop g zero ms inside = inside
 inside-drop g (suc i) [] inside = tt
 inside-drop g (suc i) (m ∷ ms) inside = inside-drop g i ms (inside .2)
 
-module _ (places : List ℤ) (lengths : List ℕ) (checked : Checked places lengths) where
+module _ (places : List ℤ) (lengths : List ℕ) (g : ℕ) (checked : Checked places lengths g) where
   -- for a strip that passed the checks
-  pub marks-inside : Inside 0 (plainMarks places lengths)
-  marks-inside = plain-inside places lengths (checked .places-good) (checked .lengths-good)
+  pub marks-inside : Inside g (plainMarks places lengths)
+  marks-inside = plain-inside places lengths g (checked .places-good) (checked .lengths-good) (checked .gap-narrow)
 
   pub marks-length : length (plainMarks places lengths) ≡ length places
   marks-length = length-plain places lengths (checked .same-count)

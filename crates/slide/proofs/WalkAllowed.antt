@@ -82,9 +82,9 @@ module _ (m : Mark) (a b cell : ℕ) (cells : ℕ → ℕ) (cell-is : cell ≡ o
   pub above-barred : cell ≤ b → takesAbove a b m cells ≡ false
   above-barred h = le-ltb b (ownSide m a cells) (omega arith)
 
--- a label on side s, as the code computes it
-pub label-on : (s : Side) (m : Mark) (a b edge : ℕ) → edge ≡ leftmostEdge m (ownReach s a b)
-    → LabelOn s m a b (sideCode s) edge (aboveAfter s (edge + m .labelLength) a) (belowAfter s (edge + m .labelLength) b)
-label-on s m a b edge e =
-    let reach : edge + m .labelLength ≡ reachPast 0 m (ownReach s a b) = omega arith in
-    record { side-is = refl; edge-is = e; above-is = ap (λ r. aboveAfter s r a) reach; below-is = ap (λ r. belowAfter s r b) reach }
+-- a label on side s, as the code computes it: its edge, and the reach of its side after it
+pub label-on : (g : ℕ) (s : Side) (m : Mark) (a b edge reach : ℕ) → edge ≡ leftmostEdge m (ownReach s a b) → reach ≡ edge + m .labelLength + g
+    → LabelOn g s m a b (sideCode s) edge (aboveAfter s reach a) (belowAfter s reach b)
+label-on g s m a b edge reach e counted =
+    let past : reach ≡ reachPast g m (ownReach s a b) = omega arith in
+    record { side-is = refl; edge-is = e; above-is = ap (λ r. aboveAfter s r a) past; below-is = ap (λ r. belowAfter s r b) past }

@@ -40,68 +40,68 @@ below-free true g a b m ms goes e = absurd (mathlib.Core.Bool.true≢false e)
 below-free false g a b m ms goes e = goes .0
 
 -- what the walk of the rest writes: numbers of sides, and places of left edges
-abbrev sidesLeft : ℕ → ℕ → List Mark → List ℕ
-sidesLeft a b ms = map sideCode (sidesFrom 0 a b ms)
+abbrev sidesLeft : ℕ → ℕ → ℕ → List Mark → List ℕ
+sidesLeft g a b ms = map sideCode (sidesFrom g a b ms)
 
-abbrev edgesLeft : ℕ → ℕ → List Mark → List ℤ
-edgesLeft a b ms = map placeOf (edgesFrom 0 a b ms (sidesFrom 0 a b ms))
+abbrev edgesLeft : ℕ → ℕ → ℕ → List Mark → List ℤ
+edgesLeft g a b ms = map placeOf (edgesFrom g a b ms (sidesFrom g a b ms))
 
 -- it begins with the next label
-module _ (m : Mark) (ms : List Mark) (a b side edge c d : ℕ) (label : LabelOn (sideBefore 0 a b m ms) m a b side edge c d) where
-  next-side : sidesLeft a b (m ∷ ms) ≡ side ∷ sidesLeft c d ms
+module _ (g : ℕ) (m : Mark) (ms : List Mark) (a b side edge c d : ℕ) (label : LabelOn g (sideBefore g a b m ms) m a b side edge c d) where
+  next-side : sidesLeft g a b (m ∷ ms) ≡ side ∷ sidesLeft g c d ms
   unfolding sidesFrom
   next-side = rw (label .side-is, label .above-is, label .below-is) refl
 
-  next-edge : edgesLeft a b (m ∷ ms) ≡ placeOf edge ∷ edgesLeft c d ms
+  next-edge : edgesLeft g a b (m ∷ ms) ≡ placeOf edge ∷ edgesLeft g c d ms
   unfolding sidesFrom edgesFrom
   next-edge = rw (label .edge-is, label .above-is, label .below-is) refl
 
-module _ (places : List ℤ) (lengths : List ℕ) where
+module _ (places : List ℤ) (lengths : List ℕ) (g : ℕ) where
   -- the marks, and what the walk writes of all of them
   abbrev marks : List Mark
   marks = plainMarks places lengths
 
   abbrev allSides : List ℕ
-  allSides = sidesLeft emptyReach emptyReach marks
+  allSides = sidesLeft g emptyReach emptyReach marks
 
   abbrev allEdges : List ℤ
-  allEdges = edgesLeft emptyReach emptyReach marks
+  allEdges = edgesLeft g emptyReach emptyReach marks
 
   -- where the walk stands after i marks, with the reaches a above and b below
   pub record WalkedTo (oldSides sides : List ℕ) (oldEdges edges : List ℤ) (a b i : ℕ) : Type 0 where
     pub small : b < noBound
-    pub going : slideable 0 a b (drop i marks) ≡ true
-    pub sides-so-far : WrittenTo allSides sides oldSides i (sidesLeft a b (drop i marks))
-    pub edges-so-far : WrittenTo allEdges edges oldEdges i (edgesLeft a b (drop i marks))
+    pub going : slideable g a b (drop i marks) ≡ true
+    pub sides-so-far : WrittenTo allSides sides oldSides i (sidesLeft g a b (drop i marks))
+    pub edges-so-far : WrittenTo allEdges edges oldEdges i (edgesLeft g a b (drop i marks))
 
   -- at the start nothing is written, both sides are empty, and the strip fits
-  pub walked-none : (sides : List ℕ) (edges : List ℤ) (i : ℕ) → i ≡ 0 → fitsPlain places lengths ≡ true
+  pub walked-none : (sides : List ℕ) (edges : List ℤ) (i : ℕ) → i ≡ 0 → fitsPlain places lengths g ≡ true
       → WalkedTo sides sides edges edges emptyReach emptyReach i
   walked-none sides edges i none fits =
       rw none
       (record { small = omega arith; going = fits; sides-so-far = written-none allSides sides; edges-so-far = written-none allEdges edges })
 
-  module _ (checked : Checked places lengths) where
+  module _ (checked : Checked places lengths g) where
     -- a side and an edge for each mark
     sides-count : length allSides ≡ length places
     sides-count =
-        length-map (sidesFrom 0 emptyReach emptyReach marks) sideCode
-        ∙ walk-length 0 emptyReach emptyReach marks
-        ∙ marks-length places lengths checked
+        length-map (sidesFrom g emptyReach emptyReach marks) sideCode
+        ∙ walk-length g emptyReach emptyReach marks
+        ∙ marks-length places lengths g checked
 
     edges-count : length allEdges ≡ length places
     edges-count =
-        let sides : List Side = sidesFrom 0 emptyReach emptyReach marks in
-        length-map (edgesFrom 0 emptyReach emptyReach marks sides) placeOf
-        ∙ edges-length 0 emptyReach emptyReach marks sides (walk-length 0 emptyReach emptyReach marks)
-        ∙ marks-length places lengths checked
+        let sides : List Side = sidesFrom g emptyReach emptyReach marks in
+        length-map (edgesFrom g emptyReach emptyReach marks sides) placeOf
+        ∙ edges-length g emptyReach emptyReach marks sides (walk-length g emptyReach emptyReach marks)
+        ∙ marks-length places lengths g checked
 
     -- all marks are walked
     pub walked-all : (oldSides sides : List ℕ) (oldEdges edges : List ℤ) (a b i : ℕ) → WalkedTo oldSides sides oldEdges edges a b i
         → length places ≡ i → (sides ≡ written allSides oldSides) × (edges ≡ written allEdges oldEdges)
     unfolding sidesFrom edgesFrom
     walked-all oldSides sides oldEdges edges a b i walked all =
-        let end = marks-end places lengths checked i (omega arith) in (
+        let end = marks-end places lengths g checked i (omega arith) in (
           written-all allSides sides oldSides i (rw end at (walked .sides-so-far)) (sides-count ∙ all),
           written-all allEdges edges oldEdges i (rw end at (walked .edges-so-far)) (edges-count ∙ all),
         )
@@ -110,7 +110,7 @@ module _ (places : List ℤ) (lengths : List ℕ) where
         (work oldSides sides : List ℕ)
         (oldEdges edges : List ℤ)
         (a b i : ℕ)
-        (table : TableHolds work marks)
+        (table : TableHolds g work marks)
         (walked : WalkedTo oldSides sides oldEdges edges a b i)
         (more : i < length places)
       where
@@ -126,46 +126,47 @@ module _ (places : List ℤ) (lengths : List ℕ) where
 
         -- what is left begins with it, inside the coordinates, and goes on with the side that the walk takes
         left-marks : drop i marks ≡ here ∷ rest
-        left-marks = marks-from places lengths checked i more
+        left-marks = marks-from places lengths g checked i more
 
-        inside : Inside 0 (here ∷ rest)
-        inside = subst (Inside 0) left-marks (inside-drop 0 i marks (marks-inside places lengths checked))
+        inside : Inside g (here ∷ rest)
+        inside = subst (Inside g) left-marks (inside-drop g i marks (marks-inside places lengths g checked))
 
-        goes : Goes 0 a b here rest (sideBefore 0 a b here rest)
-        goes = walk-goes 0 a b here rest inside (walked .small) (rw left-marks at (walked .going))
+        goes : Goes g a b here rest (sideBefore g a b here rest)
+        goes = walk-goes g a b here rest inside (walked .small) (rw left-marks at (walked .going))
 
         -- the row in the work area gives the side that the definition gives
-        row-holds : RowHolds (drop (i * rowCells) work) here rest
-        row-holds = (rw left-marks at (rows-from work marks i table)) .0
+        row-holds : RowHolds g (drop (i * rowCells) work) here rest
+        row-holds = (rw left-marks at (rows-from g work marks i table)) .0
 
         -- so the test by the row is the test of the definition
-        same-test : takesAbove a b here row ≡ takesAbove a b here (cellsOf 0 here rest)
+        same-test : takesAbove a b here row ≡ takesAbove a b here (cellsOf g here rest)
         same-test =
             ap (ltb b)
-            (own-same here a row (cellsOf 0 here rest) (inside .0) (λ d h. sym (getD-drop (i * rowCells) work d 0) ∙ row-holds d h))
+            (own-same here a row (cellsOf g here rest) (inside .0) (λ d h. sym (getD-drop (i * rowCells) work d 0) ∙ row-holds d h))
 
         -- what the step asks
-        pub step-ready : workNamed ≤ length work → StepReady work (i * rowCells) here a b
+        pub step-ready : workNamed ≤ length work → StepReady work (i * rowCells) here g a b
         step-ready long =
-            let label = label-at places lengths checked i more in
+            let label = label-at places lengths g checked i more in
             record {
               row-there = omega (arith, checked .few);
               label = label;
-              one-free = λ e. below-free _ 0 a b here rest goes (sym same-test ∙ e);
+              gap-narrow = checked .gap-narrow;
+              one-free = λ e. below-free _ g a b here rest goes (sym same-test ∙ e);
             }
 
         -- the state after the label that the code makes
-        pub walked-more : (side edge c d next : ℕ) → LabelOn (sideOf (takesAbove a b here row)) here a b side edge c d → next ≡ i + 1
+        pub walked-more : (side edge c d next : ℕ) → LabelOn g (sideOf (takesAbove a b here row)) here a b side edge c d → next ≡ i + 1
             → i < length sides → i < length edges
             → WalkedTo oldSides (set sides i side) oldEdges (set edges i (placeOf edge)) c d next
         walked-more side edge c d next made one-more sides-long edges-long =
-            let label : LabelOn (sideBefore 0 a b here rest) here a b side edge c d = rw same-test at made in
+            let label : LabelOn g (sideBefore g a b here rest) here a b side edge c d = rw same-test at made in
             rw one-more
             (record {
-              small = rw (label .below-is) (below-small 0 (sideBefore 0 a b here rest) here rest a b inside (goes .0) (walked .small));
+              small = rw (label .below-is) (below-small g (sideBefore g a b here rest) here rest a b inside (goes .0) (walked .small));
               going = rw (label .above-is, label .below-is) (goes .1);
-              sides-so-far = written-more allSides sides oldSides i side (sidesLeft c d rest)
-                  (rw (left-marks, next-side here rest a b side edge c d label) at (walked .sides-so-far)) sides-long;
-              edges-so-far = written-more allEdges edges oldEdges i (placeOf edge) (edgesLeft c d rest)
-                  (rw (left-marks, next-edge here rest a b side edge c d label) at (walked .edges-so-far)) edges-long;
+              sides-so-far = written-more allSides sides oldSides i side (sidesLeft g c d rest)
+                  (rw (left-marks, next-side g here rest a b side edge c d label) at (walked .sides-so-far)) sides-long;
+              edges-so-far = written-more allEdges edges oldEdges i (placeOf edge) (edgesLeft g c d rest)
+                  (rw (left-marks, next-edge g here rest a b side edge c d label) at (walked .edges-so-far)) edges-long;
             })

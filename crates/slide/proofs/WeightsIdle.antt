@@ -58,11 +58,11 @@ module _ (s : Strip) (same-lengths : length (s .places) ≡ length (s .lengths))
   plain-marks : map unweighted (marksOf s) ≡ plainMarks (s .places) (s .lengths)
   plain-marks = unweighted-lists (s .places) (s .lengths) (s .weights) same-lengths same-weights
 
-  pub plain-edges : (ss : List Side) → leftmostEdges 0 (plainMarks (s .places) (s .lengths)) ss ≡ leftmostEdges 0 (marksOf s) ss
-  plain-edges ss = rw (← plain-marks) (edges-unweighted 0 emptyReach emptyReach (marksOf s) ss)
+  pub plain-edges : (g : ℕ) (ss : List Side) → leftmostEdges g (plainMarks (s .places) (s .lengths)) ss ≡ leftmostEdges g (marksOf s) ss
+  plain-edges g ss = rw (← plain-marks) (edges-unweighted g emptyReach emptyReach (marksOf s) ss)
 
   pub plain-beyond : (es : List ℕ) → noneBeyond (plainMarks (s .places) (s .lengths)) es ≡ noneBeyond (marksOf s) es
   plain-beyond es = rw (← plain-marks) (beyond-unweighted (marksOf s) es)
 
-  pub plain-fits : fitsPlain (s .places) (s .lengths) ≡ slidesWhole 0 (marksOf s)
-  plain-fits = rw (← plain-marks) (slideable-unweighted 0 emptyReach emptyReach (marksOf s)) ∙ slideable-whole 0 (marksOf s)
+  pub plain-fits : (g : ℕ) → fitsPlain (s .places) (s .lengths) g ≡ slidesWhole g (marksOf s)
+  plain-fits g = rw (← plain-marks) (slideable-unweighted g emptyReach emptyReach (marksOf s)) ∙ slideable-whole g (marksOf s)

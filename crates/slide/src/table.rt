@@ -1,6 +1,6 @@
 // The table of what the rest of the strip can still take: for each mark, and each number of dots by which its label may slide, the
 // greatest reach of the other side with which the marks after it can all be placed. A cell holds 0 for none, else one more than that
-// reach's dot.
+// reach's dot. A side reaches as far as its last label and the gap behind it, so the gap is in every reach and in no test.
 use geometry::dot::EMPTY_REACH;
 use geometry::dot::dot_of;
 use geometry::limits::MOST_LENGTH;
@@ -11,6 +11,7 @@ ghost use Prim.Native.Nat.{_+_, _≤_, _<_};
 ghost use lib.Dec.{ltb, eqb};
 ghost use lib.ListN.{length, getD};
 ghost use Rattle.geometry.specs.Dot.{emptyReach};
+ghost use Rattle.geometry.specs.Pass.{mostGap};
 ghost use Rattle.slide.specs.Slide.{workNamed};
 ghost use Rattle.slide.specs.inner.Plain.{plainMark, plainMarks, Checked};
 ghost use Rattle.slide.specs.inner.Room.{noBound, GoodLabel, slidBy, furthest, ownSide, otherSide};
@@ -84,18 +85,31 @@ fn fill_last(work: &mut [u16], row: usize, length: u8)
     }
 }
 
-// The row of a mark from the row of the next one. The bounds fall as the reach grows, so each scan goes on where the last one stopped.
-fn fill_row(work: &mut [u16], row: usize, place: u16, length: u8, next_place: u16, next_length: u8)
-    requires { ⌜ RowsThere (now work) row 2 × GoodLabel (plainMark place length) × GoodLabel (plainMark «next_place» «next_length») ⌝ }
+// The row of a mark from the row of the next one. The label that does not slide reaches least, and each dot further adds one. The bounds
+// fall as the reach grows, so each scan goes on where the last one stopped.
+fn fill_row(
+    work: &mut [u16],
+    row: usize,
+    place: u16,
+    length: u8,
+    gap: u8,
+    next_place: u16,
+    next_length: u8,
+)
+    requires { ⌜ RowsThere (now work) row 2
+        × GoodLabel (plainMark place length)
+        × (gap ≤ mostGap)
+        × GoodLabel (plainMark «next_place» «next_length») ⌝ }
     ensures { λ r. ⌜ FilledTo (now (work .entry)) (now (work .exit)) row (length + 1)
-        (rowBefore place (plainMark «next_place» «next_length») (rowFrom (now (work .entry)) (row + rowCells))) ⌝ }
+        (rowBefore gap (plainMark place length) (plainMark «next_place» «next_length») (rowFrom (now (work .entry)) (row + rowCells))) ⌝ }
 {
+    let least_reach = place + gap as u16;
     let next = row + ROW_CELLS;
     let last = length as usize;
     let mut slides = next_length as usize + 1;
     let mut d = 0;
     while d <= last {
-        let reach = place + d as u16;
+        let reach = least_reach + d as u16;
         slides = furthest_slide(work, next, reach, slides);
         let own = own_side(work, next, next_place, next_length, reach);
         let other = other_side(next_place, next_length, slides);
@@ -105,9 +119,9 @@ fn fill_row(work: &mut [u16], row: usize, place: u16, length: u8, next_place: u1
 }
 
 // The row of mark k, from the rows of the marks after it.
-fn fill_mark(places: &[i16], lengths: &[u8], work: &mut [u16], k: usize)
-    requires { ⌜ RowReady (now places) (now lengths) (now work) k ⌝ }
-    ensures { λ r. ⌜ TableFrom (now (work .entry)) (now (work .exit)) k (plainMarks (now (places .entry)) (now (lengths .entry))) ⌝ }
+fn fill_mark(places: &[i16], lengths: &[u8], gap: u8, work: &mut [u16], k: usize)
+    requires { ⌜ RowReady (now places) (now lengths) gap (now work) k ⌝ }
+    ensures { λ r. ⌜ TableFrom gap (now (work .entry)) (now (work .exit)) k (plainMarks (now (places .entry)) (now (lengths .entry))) ⌝ }
 {
     let row = k * ROW_CELLS;
     if k + 1 == places.len() {
@@ -119,20 +133,21 @@ fn fill_mark(places: &[i16], lengths: &[u8], work: &mut [u16], k: usize)
         row,
         dot_of(places[k]),
         lengths[k],
+        gap,
         dot_of(places[k + 1]),
         lengths[k + 1],
     );
 }
 
 // The rows of all marks, from the last to the first.
-pub fn fill(places: &[i16], lengths: &[u8], work: &mut [u16])
-    requires { ⌜ (Checked (now places) (now lengths)) × (workNamed ≤ length (now work)) ⌝ }
-    ensures { λ r. ⌜ TableFrom (now (work .entry)) (now (work .exit)) 0 (plainMarks (now (places .entry)) (now (lengths .entry))) ⌝ }
+pub fn fill(places: &[i16], lengths: &[u8], gap: u8, work: &mut [u16])
+    requires { ⌜ (Checked (now places) (now lengths) gap) × (workNamed ≤ length (now work)) ⌝ }
+    ensures { λ r. ⌜ TableFrom gap (now (work .entry)) (now (work .exit)) 0 (plainMarks (now (places .entry)) (now (lengths .entry))) ⌝ }
 {
     let mut k = places.len();
     while 0 < k {
         k -= 1;
-        fill_mark(places, lengths, work, k);
+        fill_mark(places, lengths, gap, work, k);
     }
 }
 

@@ -38,11 +38,11 @@ impl Next {
 }
 
 // Whether there is a placing: there is none as soon as a mark leaves the other side nothing, and then the rest is not filled.
-fn fill(places: &[i16], lengths: &[u8], work: &mut [i16]) -> bool {
+fn fill(places: &[i16], lengths: &[u8], gap: i32, work: &mut [i16]) -> bool {
     let mut next = Next { left: NO_BOUND, place: NO_BOUND, after_left: NO_BOUND, after_right: NO_BOUND };
     for ((&place, &length), row) in places.iter().zip(lengths).zip(work.chunks_exact_mut(2)).rev() {
         let (place, length) = (place as i32, length as i32);
-        let (after_left, after_right) = (next.greatest(place), next.greatest(place + length));
+        let (after_left, after_right) = (next.greatest(place + gap), next.greatest(place + length + gap));
         if after_left == NONE {
             return false;
         }
@@ -54,36 +54,36 @@ fn fill(places: &[i16], lengths: &[u8], work: &mut [i16]) -> bool {
 }
 
 // Two differences are both at least 0 exactly if their bitwise or is.
-fn walk(places: &[i16], lengths: &[u8], work: &[i16], positions: &mut [u8]) {
+fn walk(places: &[i16], lengths: &[u8], gap: i32, work: &[i16], positions: &mut [u8]) {
     let (mut above, mut below) = (EMPTY, EMPTY);
     for (((&place, &length), row), position) in places.iter().zip(lengths).zip(work.chunks_exact(2)).zip(positions) {
         let (place, length) = (place as i32, length as i32);
         let (after_left, after_right) = (row[0] as i32, row[1] as i32);
-        let (left, right) = (place - length, place + length);
+        let (left, near, far) = (place - length, place + gap, place + length + gap);
         let above_left = (left - above) | (after_left - below);
         let below_left = (left - below) | (after_left - above);
         let above_right = (place - above) | (after_right - below);
-        let mut taken = if above_right >= 0 { (1, right, below) } else { (4, above, right) };
+        let mut taken = if above_right >= 0 { (1, far, below) } else { (4, above, far) };
         if below_left >= 0 {
-            taken = (3, above, place);
+            taken = (3, above, near);
         }
         if above_left >= 0 {
-            taken = (2, place, below);
+            taken = (2, near, below);
         }
         (*position, above, below) = taken;
     }
 }
 
 #[inline(never)]
-pub fn full(places: &[i16], lengths: &[u8], weights: &[u16], positions: &mut [u8], work: &mut [i16]) -> u8 {
-    let number = super::check_pass(places, lengths, weights, 4_000, positions.len(), WORK, work.len());
+pub fn full(places: &[i16], lengths: &[u8], weights: &[u16], gap: u8, positions: &mut [u8], work: &mut [i16]) -> u8 {
+    let number = super::check_pass(places, lengths, weights, gap, 4_000, positions.len(), WORK, work.len());
     if number != 0 {
         return number;
     }
     let table = &mut work[..2 * places.len()];
-    let fits = fill(places, lengths, table);
+    let fits = fill(places, lengths, gap as i32, table);
     if fits {
-        walk(places, lengths, table, positions);
+        walk(places, lengths, gap as i32, table, positions);
     }
     work[..WORK].fill(0);
     if fits {

@@ -26,17 +26,20 @@ pub fn check_marks(places: &[i16], lengths: &[u8], weights: &[u16], most: usize)
     }
 }
 
-// The checks of a pass: the lists, then the shortest answer list, then the work area.
+// The checks of a pass: the lists, among their checks the gap, then the shortest answer list, then the work area.
 pub fn check_pass(
     places: &[i16],
     lengths: &[u8],
     weights: &[u16],
+    gap: u8,
     most: usize,
     shortest: usize,
     named: usize,
     lent: usize,
 ) -> u8 {
     match check_marks(places, lengths, weights, most) {
+        6 => 6,
+        _ if gap > 8 => 12,
         0 if shortest < places.len() => 9,
         0 if lent < named => 10,
         number => number,

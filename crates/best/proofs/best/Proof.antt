@@ -4,7 +4,7 @@ use native.Mathlib.Omega.{arith}
 use Rattle.geometry.specs.Strip.{Strip, strip}
 use Rattle.geometry.specs.Refusal.{accepted, numberOf}
 use Rattle.best.specs.Best.{BestLent, bestLent, bestChecks}
-use Rattle.best.proofs.Contract.{number-found, answer-refused, zero-passes, accepted-checked, lists-enough, answer-accepted}
+use Rattle.best.proofs.Contract.{number-found, answer-refused, zero-passes, accepted-checked, gap-narrow, lists-enough, answer-accepted}
 use borrow.Author.Needs.{needs}
 use Rattle.best.proofs.best.Statement.{statement}
 use Rattle.best.proofs.best.Tie as tie
@@ -25,16 +25,16 @@ marks a = strip (a .args .places .now) (a .args .lengths .now) (a .args .weights
 abbrev entry : tie.Start → BestLent
 entry a = bestLent (a .args .positions .now) (a .args .left-out .now) (a .args .work .now)
 
-number-is : (c : tie.After-check-pass) → c .check-pass .result ≡ numberOf (bestChecks (marks (start c)) (entry (start c)))
+number-is : (c : tie.After-check-pass) → c .check-pass .result ≡ numberOf (bestChecks (marks (start c)) (start c .args .gap) (entry (start c)))
 number-is c =
     let shortest = c .before .smaller in
-    number-found (marks (start c)) (entry (start c)) _ (shortest .result) (shortest .ensures) (c .check-pass .ensures)
+    number-found (marks (start c)) _ (entry (start c)) _ (shortest .result) (shortest .ensures) (c .check-pass .ensures)
 
-passes : (c : tie.Else1) → bestChecks (marks (start (c .before))) (entry (start (c .before))) ≡ accepted
+passes : (c : tie.Else1) → let a = start (c .before) in bestChecks (marks a) (a .args .gap) (entry a) ≡ accepted
 passes c =
     let a = start (c .before) in
     let zero : c .before .check-pass .result ≡ 0 = omega arith in
-    zero-passes (marks a) (entry a) _ (number-is (c .before)) zero
+    zero-passes (marks a) _ (entry a) _ (number-is (c .before)) zero
 
 smaller-requires : tie.Need-smaller-requires
 smaller-requires c κs = search needs
@@ -46,21 +46,22 @@ returns : tie.Need-returns
 returns c =
     let a = start (c .before) in
     let not-zero : c .before .check-pass .result ≡ 0 → ⊥ = λ e. omega arith in
-    answer-refused (marks a) (entry a) _ (number-is (c .before)) not-zero
+    answer-refused (marks a) _ (entry a) _ (number-is (c .before)) not-zero
 
 label-marks-requires : tie.Need-label-marks-requires
 label-marks-requires c κs =
     let point = passed c in
     let a = start (point .before) in
-    (accepted-checked (marks a) (entry a) (passes point), lists-enough (marks a) (entry a) (passes point) .0)
+    let enough = lists-enough (marks a) _ (entry a) (passes point) in
+    (accepted-checked (marks a) _ (entry a) (passes point), (gap-narrow (marks a) _ (entry a) (passes point), enough .0))
 
 list-requires : tie.Need-list-requires
 list-requires c κs =
     let point = passed (labelled c .before) in
     let a = start (point .before) in
-    let same = labelled c .label-marks .kept .1 .1 .1 .0 in
-    let enough = lists-enough (marks a) (entry a) (passes point) in
-    let checked = accepted-checked (marks a) (entry a) (passes point) in
+    let same = labelled c .label-marks .kept .1 .1 .1 .1 .0 in
+    let enough = lists-enough (marks a) _ (entry a) (passes point) in
+    let checked = accepted-checked (marks a) _ (entry a) (passes point) in
     let one-each = checked .same-weights in
     (checked .weights-good, (omega (arith, checked .few, one-each), (omega (arith, enough .0, one-each, same), omega (arith, enough .1, one-each))))
 
@@ -80,8 +81,8 @@ returns-2 c =
     let out = listing .list in
     let point = passed (labelled (listing .before) .before) in
     let a = start (point .before) in
-    let exit = bestLent (labels .last .1 .1 .1 .0) (out .last .1 .1 .0) (labels .last .1 .1 .1 .1 .0) in
-    answer-accepted (marks a) (entry a) (passes point) exit _ _ (labels .ensures) (out .ensures .0) (out .ensures .1)
+    let exit = bestLent (labels .last .1 .1 .1 .1 .0) (out .last .1 .1 .0) (labels .last .1 .1 .1 .1 .1 .0) in
+    answer-accepted (marks a) _ (entry a) (passes point) exit _ _ (labels .ensures) (out .ensures .0) (out .ensures .1)
 
 pub best-spec : {M : Type 1} → statement M
 best-spec =

@@ -4,7 +4,7 @@ use Prim.Native.Nat.{ℕ}
 use Rattle.geometry.specs.Strip.{Strip, strip}
 use Rattle.geometry.proofs.Lent.{cleared-again}
 use Rattle.best.specs.Best.{workNamed}
-use Rattle.best.proofs.RenewedInParts.{ready-again}
+use Rattle.best.proofs.RenewedInParts.{checked-again}
 use Rattle.best.proofs.WalkIsBest.{first-cell}
 use borrow.Author.Needs.{needs}
 use Rattle.best.proofs.fill_and_walk.Statement.{statement}
@@ -34,7 +34,8 @@ place-labels-requires : tie.Need-place-labels-requires
 place-labels-requires c κs =
     let fill = filled c .fill in
     let a = start (filled c) in
-    (ready-again (a .args .work .now) (table (filled c)) (a .pre .0) (fill .kept .1 .1 .1 .1 .0), (fill .ensures .0, a .pre .1))
+    let checked = checked-again (a .args .work .now) (table (filled c)) (a .pre .0) (fill .kept .1 .1 .1 .1 .0) in
+    (checked, (a .pre .1 .0, (fill .ensures .0 _ (a .pre .1 .1 .0), a .pre .1 .1 .1)))
 
 slice-read-sum : tie.Need-slice-read-sum
 slice-read-sum c = search needs
@@ -57,7 +58,7 @@ returns c =
     let again = cleared-again workNamed 0 (zeros .clear .last .0) (table (filled (walk .before))) (a .args .work .now) in
     record {
       positions-written = walk .place-labels .ensures;
-      sum-is = first-cell 0 (marks a) _ (fill .ensures .0);
+      sum-is = first-cell _ (marks a) _ (fill .ensures .0 _ (a .pre .1 .1 .0));
       work-cleared = again (zeros .clear .ensures) (fill .ensures .1);
     }
 

@@ -22,13 +22,14 @@ pub record Checked (s : Strip) (work : List ℕ) : Type 0 where
   pub weights-good : every weightInRange (s .weights) ≡ true
   pub roomy : workNamed ≤ length work
 
--- the same with the reaches of the strip's labels
+-- the same with the reaches of the strip's labels, at some gap
 pub record Ready (s : Strip) (reaches work : List ℕ) : Type 0 where
   pub checked : Checked s work
-  pub reaches-known : Reaches (s .places) (s .lengths) reaches
+  pub gap : ℕ
+  pub reaches-known : Reaches gap (s .places) (s .lengths) reaches
 
--- the strip's choice is written, its sum given, and the work area cleared
-pub record Labelled (s : Strip) (oldPositions positions oldWork work : List ℕ) (sum : ℕ) : Type 0 where
-  pub positions-written : positions ≡ written (map code (wholeChoice 0 s)) oldPositions
-  pub sum-is : sum ≡ wholeWorth 0 s
+-- the strip's choice at a gap of g dots is written, its sum given, and the work area cleared
+pub record Labelled (g : ℕ) (s : Strip) (oldPositions positions oldWork work : List ℕ) (sum : ℕ) : Type 0 where
+  pub positions-written : positions ≡ written (map code (wholeChoice g s)) oldPositions
+  pub sum-is : sum ≡ wholeWorth g s
   pub work-cleared : work ≡ cleared workNamed 0 oldWork

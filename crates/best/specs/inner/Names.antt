@@ -13,6 +13,7 @@ use Rattle.geometry.specs.Mark.{Mark, placeInRange}
 use Rattle.geometry.specs.Strip.{Strip, mostShort}
 use Rattle.geometry.specs.Position.{Side, Direction, leftward, rightward, Position}
 use Rattle.geometry.specs.Overlap.{rightEnd}
+use Rattle.geometry.specs.Pass.{mostGap}
 use Rattle.best.specs.inner.Positions.{liesOn, directionAt}
 
 -- how many names there are for the last label of a side before the mark with index k: two for none, and two for each mark
@@ -49,13 +50,18 @@ reachNamed g zs ls name = cond (ltb name 2) emptyReach (rightEnd (labelAt zs ls 
 abbrev pub reachAt : ℕ → Strip → ℕ → ℕ
 reachAt g s name = reachNamed g (s .places) (s .lengths) name
 
--- the name is that of no label or of one of a mark of the lists
-pub record Known (zs : List ℤ) (ls : List ℕ) (name : ℕ) : Type 0 where
+-- the name is that of no label or of one of a mark of the lists, and the gap is one that the passes take
+pub record Known (g : ℕ) (zs : List ℤ) (ls : List ℕ) (name : ℕ) : Type 0 where
   pub same-lengths : length zs ≡ length ls
   pub places-good : every placeInRange zs ≡ true
+  pub gap-narrow : g ≤ mostGap
   pub within : name / 2 ≤ length zs
 
--- a list that has the reach of each of these names
-pub record Reaches (zs : List ℤ) (ls reaches : List ℕ) : Type 0 where
+-- a list that has the reach of each of these names, at a gap of g dots
+pub record Reaches (g : ℕ) (zs : List ℤ) (ls reaches : List ℕ) : Type 0 where
   pub long : namesBefore (length zs) ≤ length reaches
-  pub reach : (name : ℕ) → name / 2 ≤ length zs → getD reaches name 0 ≡ reachNamed 0 zs ls name
+  pub reach : (name : ℕ) → name / 2 ≤ length zs → getD reaches name 0 ≡ reachNamed g zs ls name
+
+-- said of every gap at which the list has the reaches of the strip's labels: the table is filled by that list, where no gap is at hand
+abbrev pub AtEveryGap : Strip → List ℕ → (ℕ → Type 0) → Type 0
+AtEveryGap s reaches P = (g : ℕ) → Reaches g (s .places) (s .lengths) reaches → P g

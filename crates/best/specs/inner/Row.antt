@@ -1,23 +1,32 @@
 -- The row of the last label x above, as mark k is counted into the table: what its cells share, and the value of a cell by it.
 use mathlib.Core.Path.{_≡_}
 use mathlib.Core.List.{List}
-use mathlib.Core.Bool.{cond}
+use mathlib.Core.Bool.{true, cond}
 use Prim.Native.Nat.{ℕ, _+_, _≤_, _<_, max}
 use lib.Dec.{leb}
 use lib.ListN.{length, getD}
-use Rattle.geometry.specs.Mark.{mostWeight}
+use Rattle.geometry.specs.Lists.{every}
+use Rattle.geometry.specs.Mark.{placeInRange, mostWeight}
 use Rattle.geometry.specs.Strip.{Strip, mostShort}
 use Rattle.geometry.specs.Position.{below, leftward, rightward, at}
 use Rattle.geometry.specs.Overlap.{leftEnd}
 use Rattle.best.specs.Best.{workNamed}
 use Rattle.best.specs.declared.row.Row.{Row}
-use Rattle.best.specs.inner.Names.{namesBefore, nameOf, labelAt, reachAt}
+use Rattle.best.specs.inner.Names.{namesBefore, nameOf, labelAt}
 use Rattle.best.specs.inner.Table.{cellOf}
-use Rattle.best.specs.inner.Trial.{mostSum, gainAt}
+use Rattle.best.specs.inner.Trial.{mostSum, GainAsked, gainAt}
+
+-- what is asked where a row is begun: the mark is one of the strip, and the list has the reach of the last label above
+pub record RowAsked (s : Strip) (reaches work : List ℕ) (k x : ℕ) : Type 0 where
+  pub same-lengths : length (s .places) ≡ length (s .lengths)
+  pub places-good : every placeInRange (s .places) ≡ true
+  pub in-strip : k < length (s .places)
+  pub known : x < length reaches
+  pub gain : GainAsked (s .weights) work k x 0
 
 -- what the cells of the row share: for the two offers below it does not matter what the last label below is
-pub record RowOf (s : Strip) (work : List ℕ) (k x : ℕ) (row : Row) : Type 0 where
-  pub reach-is : row .reach ≡ reachAt 0 s x
+pub record RowOf (s : Strip) (reaches work : List ℕ) (k x : ℕ) (row : Row) : Type 0 where
+  pub reach-is : row .reach ≡ getD reaches x 0
   pub left-is : row .left ≡ leftEnd (labelAt (s .places) (s .lengths) k) leftward
   pub place-is : row .place ≡ leftEnd (labelAt (s .places) (s .lengths) k) rightward
   pub weight-is : row .weight ≡ getD (s .weights) k 0

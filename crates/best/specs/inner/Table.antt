@@ -10,7 +10,7 @@ use Rattle.geometry.specs.Strip.{Strip, marksOf}
 use Rattle.geometry.specs.Position.{above, below, Position}
 use Rattle.best.specs.Best.{workNamed}
 use Rattle.best.specs.inner.Worth.{worth}
-use Rattle.best.specs.inner.Names.{names, lastAfter, reachAt}
+use Rattle.best.specs.inner.Names.{names, lastAfter, reachAt, AtEveryGap}
 use Rattle.best.specs.inner.Checked.{Ready}
 
 abbrev pub cellOf : ℕ → ℕ → ℕ
@@ -38,9 +38,9 @@ pub record Filled (g : ℕ) (s : Strip) (k : ℕ) (table : List ℕ) : Type 0 wh
 pub record Renewing (s : Strip) (reaches work : List ℕ) (k bound : ℕ) : Type 0 where
   pub ready : Ready s reaches work
   pub in-strip : k < length (s .places)
-  pub partly : Partly 0 s k bound work
+  pub partly : AtEveryGap s reaches (λ g. Partly g s k bound work)
 
 -- and what is given: the table up to another bound, the work area beyond its named part as it was
-pub record Renewed (s : Strip) (k bound : ℕ) (old work : List ℕ) : Type 0 where
-  pub partly : Partly 0 s k bound work
+pub record Renewed (s : Strip) (reaches : List ℕ) (k bound : ℕ) (old work : List ℕ) : Type 0 where
+  pub partly : AtEveryGap s reaches (λ g. Partly g s k bound work)
   pub rest-kept : drop workNamed work ≡ drop workNamed old

@@ -11,10 +11,11 @@ use Rattle.geometry.specs.Lists.{every, firstOf}
 use Rattle.geometry.specs.Mark.{placeInRange, mostWeight}
 use Rattle.geometry.specs.Strip.{Strip, mostShort}
 use Rattle.geometry.specs.Position.{Position, ranked}
+use Rattle.geometry.specs.Pass.{mostGap}
 use Rattle.geometry.specs.inner.Machine.{roomFor}
 use Rattle.best.specs.Best.{workNamed}
 use Rattle.best.specs.inner.Worth.{earnedBy, orUnlabelled}
-use Rattle.best.specs.inner.Names.{names, labelAt, reachAt, Reaches}
+use Rattle.best.specs.inner.Names.{names, labelAt, reachAt}
 use Rattle.best.specs.inner.Table.{cellAfter}
 
 -- no short strip earns more
@@ -25,11 +26,11 @@ mostSum = mostShort * mostWeight
 abbrev pub SmallCells : List ℕ → ℕ → ℕ → ℕ → Type 0
 SmallCells work k x y = (p : Position) → getD work (cellAfter k x y p) 0 ≤ mostSum
 
--- what the test of room asks: the mark is one of the strip, and the last labels are of marks before it
-pub record RoomAsked (zs : List ℤ) (ls reaches : List ℕ) (k x y : ℕ) : Type 0 where
+-- what the test of room asks: the mark is one of the strip, the last labels are of marks before it, and the gap is one that the passes take
+pub record RoomAsked (g : ℕ) (zs : List ℤ) (ls : List ℕ) (k x y : ℕ) : Type 0 where
   pub same-lengths : length zs ≡ length ls
   pub places-good : every placeInRange zs ≡ true
-  pub reaches-known : Reaches zs ls reaches
+  pub gap-narrow : g ≤ mostGap
   pub in-strip : k < length zs
   pub above-before : x / 2 ≤ k
   pub below-before : y / 2 ≤ k
@@ -44,8 +45,8 @@ pub record GainAsked (ws work : List ℕ) (k x y : ℕ) : Type 0 where
   pub small : SmallCells work k x y
 
 -- both, where mark k is tried
-pub record BeforeMark (s : Strip) (reaches work : List ℕ) (k x y : ℕ) : Type 0 where
-  pub room : RoomAsked (s .places) (s .lengths) reaches k x y
+pub record BeforeMark (g : ℕ) (s : Strip) (work : List ℕ) (k x y : ℕ) : Type 0 where
+  pub room : RoomAsked g (s .places) (s .lengths) k x y
   pub gain : GainAsked (s .weights) work k x y
 
 -- room for mark k at p beside the last labels, and what it then earns with the marks after it, by the table

@@ -24,7 +24,7 @@ abbrev entry : tie.After-check-pass → FullLent
 entry k = fullLent (came k .args .positions .now) (came k .args .work .now)
 
 -- they are passed
-passed : (p : tie.Else1) → numberOf (fullChecks (whole (p .before)) (entry (p .before))) ≡ 0
+passed : (p : tie.Else1) → numberOf (fullChecks (whole (p .before)) (came (p .before) .args .gap) (entry (p .before))) ≡ 0
 passed p = sym (p .before .check-pass .ensures) ∙ omega arith
 
 -- the table is filled, and what was passed before
@@ -32,13 +32,13 @@ abbrev checked : tie.After-fill → tie.Else1
 checked f = f .before .before
 
 abbrev table : tie.After-fill → List ℤ
-table f = f .fill .last .1 .1 .0
+table f = f .fill .last .1 .1 .1 .0
 
 roomy : (f : tie.After-fill) → workNamed ≤ length (table f)
 roomy f =
     let p = checked f in
-    let enough = ready-to-fill (whole (p .before)) (entry (p .before)) (passed p) (came (p .before) .args .work .now) refl .roomy in
-    omega (arith, f .fill .kept .1 .1 .0)
+    let enough = ready-to-fill (whole (p .before)) _ (entry (p .before)) (passed p) (came (p .before) .args .work .now) refl .roomy in
+    omega (arith, f .fill .kept .1 .1 .1 .0)
 
 -- no placing, a placing, and the walk done
 abbrev none-filled : tie.Then2 → tie.After-fill
@@ -57,10 +57,10 @@ check-pass-requires : tie.Need-check-pass-requires
 check-pass-requires c κs = search needs
 
 returns : tie.Need-returns
-returns c = let k = c .before in refused-call (whole k) (entry k) _ (k .check-pass .ensures) (λ zero. omega arith)
+returns c = let k = c .before in refused-call (whole k) _ (entry k) _ (k .check-pass .ensures) (λ zero. omega arith)
 
 fill-requires : tie.Need-fill-requires
-fill-requires c κs = let p = c .before in ready-to-fill (whole (p .before)) (entry (p .before)) (passed p) _ refl
+fill-requires c κs = let p = c .before in ready-to-fill (whole (p .before)) _ (entry (p .before)) (passed p) _ refl
 
 clear-requires : tie.Need-clear-requires
 clear-requires c κs = roomy (none-filled (c .before))
@@ -74,13 +74,13 @@ returns-2 c =
     let n = cleared .before .before in
     let f = none-filled n in
     let p = checked f in
-    no-placing-call (whole (p .before)) (entry (p .before)) (passed p) (table f) _ (f .fill .ensures) _ _ (omega arith) refl refl (cleared .clear .ensures)
+    no-placing-call (whole (p .before)) _ (entry (p .before)) (passed p) (table f) _ (f .fill .ensures) _ _ (omega arith) refl refl (cleared .clear .ensures)
 
 walk-requires : tie.Need-walk-requires
 walk-requires c κs =
     let f = some-filled (c .before .before) in
     let p = checked f in
-    ready-to-walk (whole (p .before)) (entry (p .before)) (passed p) (table f) _ (f .fill .ensures) (f .fill .kept .1 .1 .0) (λ zero. omega arith)
+    ready-to-walk (whole (p .before)) _ (entry (p .before)) (passed p) (table f) _ (f .fill .ensures) (f .fill .kept .1 .1 .1 .0) (λ zero. omega arith)
 
 clear-requires-2 : tie.Need-clear-requires-2
 clear-requires-2 c κs = roomy (some-filled (fitting (walked c)))
@@ -97,7 +97,7 @@ returns-3 c =
     let w = walked (cleared .before) in
     let f = some-filled (fitting w) in
     let p = checked f in
-    placing-call (whole (p .before)) (entry (p .before)) (passed p) (table f) _ (f .fill .ensures) _ _ (λ zero. omega arith) refl (w .walk .ensures)
+    placing-call (whole (p .before)) _ (entry (p .before)) (passed p) (table f) _ (f .fill .ensures) _ _ (λ zero. omega arith) refl (w .walk .ensures)
     (cleared .clear2 .ensures)
 
 pub full-spec : {M : Type 1} → statement M

@@ -41,10 +41,10 @@ walk g a b (m ∷ ms) = let p = pick g a b m ms in p ∷ walk g (nextAbove g a m
 abbrev pub pickByRow : ℕ → ℕ → ℕ → ℕ → ℕ → ℕ → ℕ → Position
 pickByRow a b left right first second third = firstPassed (leb a left && leb b first) (leb b left && leb a second) (leb a right && leb b third)
 
--- A step of the walk at a mark with this place and length, over signed numbers: the position's number and the two reaches after it.
-pub record Stepped (above below place : ℤ) (labelLength : ℕ) (p : Position) (position : ℕ) (above′ below′ : ℤ) : Type 0 where
+-- A step of the walk at a mark with this place and length, at a gap, over signed numbers: the position's number and the two reaches after it.
+pub record Stepped (g : ℕ) (above below place : ℤ) (labelLength : ℕ) (p : Position) (position : ℕ) (above′ below′ : ℤ) : Type 0 where
   pub position-is : position ≡ code p
-  pub above-is : (weight : ℕ) → dot above′ ≡ nextAbove 0 (dot above) (record { place = dot place; labelLength = labelLength; weight = weight }) p
-  pub below-is : (weight : ℕ) → dot below′ ≡ nextBelow 0 (dot below) (record { place = dot place; labelLength = labelLength; weight = weight }) p
+  pub above-is : (weight : ℕ) → dot above′ ≡ nextAbove g (dot above) (record { place = dot place; labelLength = labelLength; weight = weight }) p
+  pub below-is : (weight : ℕ) → dot below′ ≡ nextBelow g (dot below) (record { place = dot place; labelLength = labelLength; weight = weight }) p
   pub above-held : mag above′ < 32768
   pub below-held : mag below′ < 32768

@@ -57,9 +57,9 @@ four xs = getD xs 0 (pos 0) ∷ getD xs 1 (pos 0) ∷ getD xs 2 (pos 0) ∷ getD
 abbrev pub beside : ℕ → ℕ → ℕ → List ℤ → ℕ
 beside t y k next = candidates t (y - k) y (dot (getD next 0 (pos 0))) (dot (getD next 2 (pos 0)))
 
--- the row of a mark at x with length l from the row of the next mark, at y with length k
-abbrev pub rowBefore : ℕ → ℕ → ℕ → ℕ → List ℤ → List ℕ
-rowBefore x l y k next = alike (beside x y k next) (beside (x + l) y k next)
+-- the row of a mark at x with length l from the row of the next mark, at y with length k, at a gap of g dots
+abbrev pub rowBefore : ℕ → ℕ → ℕ → ℕ → ℕ → List ℤ → List ℕ
+rowBefore g x l y k next = alike (beside (x + g) y k next) (beside (x + l + g) y k next)
 
 -- kept part layouts with these reaches, as dots
 pub record Counted (row : List ℕ) (reaches : List ℤ) (count : ℕ) : Type 0 where

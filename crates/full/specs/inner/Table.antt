@@ -10,7 +10,7 @@ use Rattle.geometry.specs.Lists.{every}
 use Rattle.geometry.specs.Mark.{placeInRange, lengthInRange}
 use Rattle.geometry.specs.Strip.{Strip, strip, marksOf, mostMarks}
 use Rattle.geometry.specs.Position.{code}
-use Rattle.geometry.specs.Pass.{written}
+use Rattle.geometry.specs.Pass.{mostGap, written}
 use Rattle.geometry.specs.inner.At.{markAt}
 use Rattle.full.specs.Full.{workNamed}
 use Rattle.full.specs.inner.Rest.{walk}
@@ -20,39 +20,40 @@ use Rattle.full.specs.inner.Row.{rowOf, countOf}
 abbrev pub AnyWeights : List ℤ → List ℕ → (Strip → Type 0) → Type 0
 AnyWeights places lengths Property = (weights : List ℕ) → length places ≡ length weights → Property (strip places lengths weights)
 
--- the row of the mark with index j, by definition
-abbrev pub rowIn : Strip → ℕ → List ℕ
-rowIn s j = rowOf 0 (markAt s j) (drop (j + 1) (marksOf s))
+-- the row of the mark with index j at a gap, by definition
+abbrev pub rowIn : ℕ → Strip → ℕ → List ℕ
+rowIn g s j = rowOf g (markAt s j) (drop (j + 1) (marksOf s))
 
 -- the numbers of the mark with index j in the work area
 abbrev pub rowAt : List ℤ → ℕ → List ℤ
 rowAt work j = take 4 (drop (4 * j) work)
 
 -- the rows of the marks from index i on are right
-abbrev pub RowsFrom : ℕ → List ℤ → Strip → Type 0
-RowsFrom i work s = (j : ℕ) → i ≤ j → j < length (s .places) → map dot (rowAt work j) ≡ rowIn s j
+abbrev pub RowsFrom : ℕ → ℕ → List ℤ → Strip → Type 0
+RowsFrom g i work s = (j : ℕ) → i ≤ j → j < length (s .places) → map dot (rowAt work j) ≡ rowIn g s j
 
 -- what filling the table asks
-pub record Ready (places : List ℤ) (lengths : List ℕ) (work : List ℤ) : Type 0 where
+pub record Ready (places : List ℤ) (lengths : List ℕ) (g : ℕ) (work : List ℤ) : Type 0 where
   pub same-lengths : length places ≡ length lengths
   pub few : length places ≤ mostMarks
   pub places-good : every placeInRange places ≡ true
   pub lengths-good : every lengthInRange lengths ≡ true
+  pub gap-narrow : g ≤ mostGap
   pub roomy : workNamed ≤ length work
 
 -- and what it gives: the first mark's count, the rows of all marks unless that is 0, and nothing touched beyond the named part
-pub record Filled (places : List ℤ) (lengths : List ℕ) (entry exit : List ℤ) (count : ℕ) : Type 0 where
-  pub first-count : 0 < length places → AnyWeights places lengths (λ s. count ≡ countOf (rowIn s 0))
+pub record Filled (places : List ℤ) (lengths : List ℕ) (g : ℕ) (entry exit : List ℤ) (count : ℕ) : Type 0 where
+  pub first-count : 0 < length places → AnyWeights places lengths (λ s. count ≡ countOf (rowIn g s 0))
   pub empty-count : length places ≡ 0 → count ≡ 4
-  pub rows : (count ≡ 0 → ⊥) → AnyWeights places lengths (RowsFrom 0 exit)
+  pub rows : (count ≡ 0 → ⊥) → AnyWeights places lengths (RowsFrom g 0 exit)
   pub rest-kept : drop workNamed exit ≡ drop workNamed entry
 
 -- what the walk asks besides
-pub record WalkReady (places : List ℤ) (lengths : List ℕ) (work : List ℤ) (positions : List ℕ) : Type 0 where
-  pub ready : Ready places lengths work
-  pub rows : AnyWeights places lengths (RowsFrom 0 work)
+pub record WalkReady (places : List ℤ) (lengths : List ℕ) (g : ℕ) (work : List ℤ) (positions : List ℕ) : Type 0 where
+  pub ready : Ready places lengths g work
+  pub rows : AnyWeights places lengths (RowsFrom g 0 work)
   pub places-for-all : length places ≤ length positions
 
 -- and what it leaves: the numbers of the walk's positions
-abbrev pub Walked : List ℤ → List ℕ → List ℕ → List ℕ → Type 0
-Walked places lengths entry exit = AnyWeights places lengths (λ s. exit ≡ written (map code (walk 0 emptyReach emptyReach (marksOf s))) entry)
+abbrev pub Walked : List ℤ → List ℕ → ℕ → List ℕ → List ℕ → Type 0
+Walked places lengths g entry exit = AnyWeights places lengths (λ s. exit ≡ written (map code (walk g emptyReach emptyReach (marksOf s))) entry)

@@ -9,7 +9,7 @@ use Rattle.geometry.specs.Placing.{firstPlacing, bestSum}
 use Rattle.geometry.specs.Sliding.{slidesWhole}
 use Rattle.geometry.specs.Refusal.{accepted}
 use Rattle.geometry.specs.Entry.{entry}
-use Rattle.listing.specs.Text.{spaced, noneWord, fullTail, shortLines, stripLines}
+use Rattle.listing.specs.Text.{listingGap, spaced, noneWord, fullTail, shortLines, stripLines}
 use Rattle.listing.specs.Listing.{Chosen, TextOf}
 use Rattle.listing.specs.inner.Append.{Appended}
 
@@ -20,11 +20,11 @@ tailOf false codes = 32 ∷ noneWord
 
 -- what the full pass says of a strip, in the words of its line
 abbrev pub FullFound : Strip → Bool → List ℕ → Type 0
-FullFound s fits positions = tailOf fits (take (length (s .places)) positions) ≡ fullTail (firstPlacing 0 (marksOf s))
+FullFound s fits positions = tailOf fits (take (length (s .places)) positions) ≡ fullTail (firstPlacing listingGap (marksOf s))
 
 -- what the best pass says of it: the sum, and how many numbers of the list are those of left-out marks
 pub record BestFound (s : Strip) (sum count : ℕ) (leftOut : List ℕ) : Type 0 where
-  pub sum-is : sum ≡ bestSum 0 (marksOf s)
+  pub sum-is : sum ≡ bestSum listingGap (marksOf s)
   pub listed : count ≤ length leftOut
   pub chosen : Chosen s (take count leftOut)
 
@@ -37,13 +37,13 @@ pub record Ready (limit : ℕ) (s : Strip) (text : List ℕ) (at room : ℕ) : T
 pub record StripLines (s : Strip) (before : List ℕ) (at : ℕ) (after : List ℕ) (next : ℕ) : Type 0 where
   pub out : List ℕ
   pub chosen : length (s .places) ≤ mostShort → Chosen s out
-  pub appended : Appended before at (stripLines s (slidesWhole 0 (marksOf s)) out) after next
+  pub appended : Appended before at (stripLines s (slidesWhole listingGap (marksOf s)) out) after next
 
 -- those below the full line, of a short strip
 pub record ShortLines (s : Strip) (before : List ℕ) (at : ℕ) (after : List ℕ) (next : ℕ) : Type 0 where
   pub out : List ℕ
   pub chosen : Chosen s out
-  pub appended : Appended before at (shortLines s (slidesWhole 0 (marksOf s)) out) after next
+  pub appended : Appended before at (shortLines s (slidesWhole listingGap (marksOf s)) out) after next
 
 -- a whole text at the front of a buffer
 pub record Listing (job after : List ℕ) (next : ℕ) : Type 0 where

@@ -23,25 +23,28 @@ asked f = f .before .before
 abbrev start : tie.After-fill → tie.Start
 start f = asked f .before .before .before
 
--- the strip's lists, the lent lists, and the work area with the table
+-- the strip's lists, the gap, the lent lists, and the work area with the table
 abbrev places : tie.After-fill → List ℤ
 places f = start f .args .places .now
 
 abbrev lengths : tie.After-fill → List ℕ
 lengths f = start f .args .lengths .now
 
+abbrev gap : tie.After-fill → ℕ
+gap f = start f .args .gap
+
 abbrev lent : tie.After-fill → SlideLent
 lent f = slideLent (start f .args .sides .now) (start f .args .edges .now) (start f .args .work .now)
 
 abbrev table : tie.After-fill → List ℕ
-table f = f .fill .last .1 .1 .0
+table f = f .fill .last .1 .1 .1 .0
 
 -- the lent lists afterwards: unchanged but for the work area, or as the walk left them
 abbrev none-after : tie.After-clear → SlideLent → SlideLent
 none-after c before = slideLent (before .sides) (before .edges) (c .clear .last .0)
 
 abbrev some-after : tie.After-walk → tie.After-clear2 → SlideLent
-some-after w c = slideLent (w .walk .last .1 .1 .1 .0) (w .walk .last .1 .1 .1 .1 .0) (c .clear2 .last .0)
+some-after w c = slideLent (w .walk .last .1 .1 .1 .1 .0) (w .walk .last .1 .1 .1 .1 .1 .0) (c .clear2 .last .0)
 
 fill-requires : tie.Need-fill-requires
 fill-requires c κs = search needs
@@ -61,7 +64,7 @@ returns c =
     let none : tie.Then1 = clear .before .before in
     let test : tie.After-fits2 = none .before in
     let f : tie.After-fill = filled test in
-    no-answer (places f) (lengths f) (lent f) (table f) (start f .pre) (f .fill .ensures) (test .fits2 .result) (test .fits2 .ensures)
+    no-answer (places f) (lengths f) (gap f) (lent f) (table f) (start f .pre) (f .fill .ensures) (test .fits2 .result) (test .fits2 .ensures)
     (none-after clear (lent f)) _ (clear .clear .ensures) (not-true _ (none .if1 .taken)) refl (record { sides-unchanged = refl; edges-unchanged = refl })
 
 walk-requires : tie.Need-walk-requires
@@ -69,7 +72,7 @@ walk-requires c κs =
     let some : tie.Else1 = c .before .before .before in
     let test : tie.After-fits2 = some .before in
     let f : tie.After-fill = filled test in
-    walk-ready (places f) (lengths f) (lent f) (table f) (start f .pre) (f .fill .ensures) (test .fits2 .result) (test .fits2 .ensures)
+    walk-ready (places f) (lengths f) (gap f) (lent f) (table f) (start f .pre) (f .fill .ensures) (test .fits2 .result) (test .fits2 .ensures)
     (not-false _ (some .if1 .left))
 
 clear-requires-2 : tie.Need-clear-requires-2
@@ -93,7 +96,7 @@ returns-2 c =
     let some : tie.Else1 = asked-walk .before in
     let test : tie.After-fits2 = some .before in
     let f : tie.After-fill = filled test in
-    some-answer (places f) (lengths f) (lent f) (table f) (start f .pre) (f .fill .ensures) (test .fits2 .result) (test .fits2 .ensures)
+    some-answer (places f) (lengths f) (gap f) (lent f) (table f) (start f .pre) (f .fill .ensures) (test .fits2 .result) (test .fits2 .ensures)
     (some-after walked clear) _ (clear .clear2 .ensures) (not-false _ (some .if1 .left)) refl
     (record { sides = walked .walk .ensures .sides; edges = walked .walk .ensures .edges })
 

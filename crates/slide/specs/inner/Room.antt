@@ -3,19 +3,21 @@ use Prim.Native.Nat.{ℕ, zero, suc, _+_, _-_, _≤_, _<_, max}
 use mathlib.Core.List.{List, [], _∷_}
 use mathlib.Core.Bool.{Bool, true, cond, _&&_, _||_}
 use lib.Dec.{leb, ltb}
-use Rattle.geometry.specs.Mark.{Mark, mostLength}
+use Rattle.geometry.specs.Dot.{dot}
+use Rattle.geometry.specs.Mark.{Mark, mostPlace, mostLength}
 use Rattle.geometry.specs.Sliding.{leftmostEdge}
 
--- a bound that every reach meets: more than any dot that the label of an accepted mark may cover
+-- a bound that every reach meets: more than any dot that the label of an accepted mark, with the widest gap behind it, may cover
 abbrev pub noBound : ℕ
 noBound = 65535
 
--- the label of an accepted mark: a length in its range, and dots enough on either side of the place
+-- the label of an accepted mark: a length in its range, dots enough to the left of the place, and a place in its range, so that there are
+-- enough to the right for the label and the widest gap
 pub record GoodLabel (m : Mark) : Type 0 where
   pub some : 1 ≤ m .labelLength
   pub short : m .labelLength ≤ mostLength
   pub left : m .labelLength < m .place
-  pub right : m .place + m .labelLength < noBound
+  pub right : m .place ≤ dot mostPlace
 
 -- how far the label of m slides from its leftmost place on a side whose labels reach to t
 abbrev pub slidBy : Mark → ℕ → ℕ

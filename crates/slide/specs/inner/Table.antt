@@ -27,32 +27,32 @@ pub record FilledTo (old new : List ℕ) (row d : ℕ) (value : ℕ → ℕ) : T
   pub behind : drop (row + rowCells) new ≡ drop (row + rowCells) old
   pub same-length : length new ≡ length old
 
--- the cells of a mark at a place, from the cells of the next mark
-abbrev pub rowBefore : ℕ → Mark → (ℕ → ℕ) → ℕ → ℕ
-rowBefore place next cells d = roomBefore next (place + d) cells
+-- the cells of the mark m, from the cells of the next mark
+abbrev pub rowBefore : ℕ → Mark → Mark → (ℕ → ℕ) → ℕ → ℕ
+rowBefore g m next cells d = roomBefore next (reachAt g m d) cells
 
 -- the first cells are those of the mark m before the marks ms
-abbrev pub RowHolds : List ℕ → Mark → List Mark → Type 0
-RowHolds cells m ms = (d : ℕ) → d ≤ m .labelLength → getD cells d 0 ≡ room 0 (reachAt 0 m d) ms
+abbrev pub RowHolds : ℕ → List ℕ → Mark → List Mark → Type 0
+RowHolds g cells m ms = (d : ℕ) → d ≤ m .labelLength → getD cells d 0 ≡ room g (reachAt g m d) ms
 
 -- the rows of all marks, one after the other
-abbrev pub TableHolds : List ℕ → List Mark → Type 0
-TableHolds cells [] = Unit {0}
-TableHolds cells (m ∷ ms) = RowHolds cells m ms × TableHolds (drop rowCells cells) ms
+abbrev pub TableHolds : ℕ → List ℕ → List Mark → Type 0
+TableHolds g cells [] = Unit {0}
+TableHolds g cells (m ∷ ms) = RowHolds g cells m ms × TableHolds g (drop rowCells cells) ms
 
 -- the rows of the marks from index k on
-abbrev pub RowsFrom : List ℕ → ℕ → List Mark → Type 0
-RowsFrom cells k ms = TableHolds (drop (k * rowCells) cells) (drop k ms)
+abbrev pub RowsFrom : ℕ → List ℕ → ℕ → List Mark → Type 0
+RowsFrom g cells k ms = TableHolds g (drop (k * rowCells) cells) (drop k ms)
 
 -- what the row of mark k asks: the rows behind it stand
-pub record RowReady (places : List ℤ) (lengths work : List ℕ) (k : ℕ) : Type 0 where
-  pub checked : Checked places lengths
+pub record RowReady (places : List ℤ) (lengths : List ℕ) (g : ℕ) (work : List ℕ) (k : ℕ) : Type 0 where
+  pub checked : Checked places lengths g
   pub within : k < length places
   pub work-long : workNamed ≤ length work
-  pub behind : RowsFrom work (k + 1) (plainMarks places lengths)
+  pub behind : RowsFrom g work (k + 1) (plainMarks places lengths)
 
 -- these rows are in the work area, and the part beyond the named one is as it was
-pub record TableFrom (old new : List ℕ) (k : ℕ) (ms : List Mark) : Type 0 where
-  pub table : RowsFrom new k ms
+pub record TableFrom (g : ℕ) (old new : List ℕ) (k : ℕ) (ms : List Mark) : Type 0 where
+  pub table : RowsFrom g new k ms
   pub beyond : drop workNamed new ≡ drop workNamed old
   pub same-length : length new ≡ length old

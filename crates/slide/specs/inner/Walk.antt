@@ -10,7 +10,7 @@ use Rattle.geometry.specs.Dot.{emptyReach}
 use Rattle.geometry.specs.Mark.{Mark}
 use Rattle.geometry.specs.Position.{Side, above, below, sideCode, ownReach, aboveAfter, belowAfter}
 use Rattle.geometry.specs.Sliding.{leftmostEdge, leftmostEdges}
-use Rattle.geometry.specs.Pass.{written}
+use Rattle.geometry.specs.Pass.{mostGap, written}
 use Rattle.geometry.specs.inner.Place.{placeOf}
 use Rattle.slide.specs.Slide.{SlideLent, workNamed}
 use Rattle.slide.specs.inner.Plain.{plainMarks, Checked}
@@ -37,38 +37,39 @@ sidesFrom g a b (m ∷ ms) =
     let r = reachPast g m (ownReach s a b) in
     s ∷ sidesFrom g (aboveAfter s r a) (belowAfter s r b) ms
 
--- a label of m on side s, from the reaches a and b: its side's number, its edge, and the reaches after it
-pub record LabelOn (s : Side) (m : Mark) (a b side edge aboveNext belowNext : ℕ) : Type 0 where
+-- a label of m on side s, from the reaches a and b: its side's number, its edge, and the reaches after it, with the gap
+pub record LabelOn (g : ℕ) (s : Side) (m : Mark) (a b side edge aboveNext belowNext : ℕ) : Type 0 where
   pub side-is : side ≡ sideCode s
   pub edge-is : edge ≡ leftmostEdge m (ownReach s a b)
-  pub above-is : aboveNext ≡ aboveAfter s (reachPast 0 m (ownReach s a b)) a
-  pub below-is : belowNext ≡ belowAfter s (reachPast 0 m (ownReach s a b)) b
+  pub above-is : aboveNext ≡ aboveAfter s (reachPast g m (ownReach s a b)) a
+  pub below-is : belowNext ≡ belowAfter s (reachPast g m (ownReach s a b)) b
 
--- what one step of the walk asks of the row that starts at an index: it is there, the label stays within the coordinates, and where
--- above is not taken below is free
-pub record StepReady (work : List ℕ) (row : ℕ) (m : Mark) (a b : ℕ) : Type 0 where
+-- what one step of the walk asks of the row that starts at an index: it is there, the label with the gap stays within the coordinates,
+-- and where above is not taken below is free
+pub record StepReady (work : List ℕ) (row : ℕ) (m : Mark) (g a b : ℕ) : Type 0 where
   pub row-there : row + m .labelLength < length work
   pub label : GoodLabel m
+  pub gap-narrow : g ≤ mostGap
   pub one-free : takesAbove a b m (rowFrom work row) ≡ false → b ≤ m .place
 
 -- some sides let every label of a strip lie where it may
-abbrev pub fitsPlain : List ℤ → List ℕ → Bool
-fitsPlain places lengths = slideable 0 emptyReach emptyReach (plainMarks places lengths)
+abbrev pub fitsPlain : List ℤ → List ℕ → ℕ → Bool
+fitsPlain places lengths g = slideable g emptyReach emptyReach (plainMarks places lengths)
 
 -- what the walk asks of the lent lists, with the table in the work area
-pub record WalkReady (places : List ℤ) (lengths : List ℕ) (lent : SlideLent) : Type 0 where
-  pub checked : Checked places lengths
+pub record WalkReady (places : List ℤ) (lengths : List ℕ) (g : ℕ) (lent : SlideLent) : Type 0 where
+  pub checked : Checked places lengths g
   pub sides-long : length places ≤ length (lent .sides)
   pub edges-long : length places ≤ length (lent .edges)
   pub work-long : workNamed ≤ length (lent .work)
-  pub table : TableHolds (lent .work) (plainMarks places lengths)
-  pub fits : fitsPlain places lengths ≡ true
+  pub table : TableHolds g (lent .work) (plainMarks places lengths)
+  pub fits : fitsPlain places lengths g ≡ true
 
 -- the sides that the walk gives a strip
-abbrev pub walkSides : List ℤ → List ℕ → List Side
-walkSides places lengths = sidesFrom 0 emptyReach emptyReach (plainMarks places lengths)
+abbrev pub walkSides : List ℤ → List ℕ → ℕ → List Side
+walkSides places lengths g = sidesFrom g emptyReach emptyReach (plainMarks places lengths)
 
 -- what it leaves in the answer lists
-pub record Walked (places : List ℤ) (lengths : List ℕ) (entry exit : SlideLent) : Type 0 where
-  pub sides : exit .sides ≡ written (map sideCode (walkSides places lengths)) (entry .sides)
-  pub edges : exit .edges ≡ written (map placeOf (leftmostEdges 0 (plainMarks places lengths) (walkSides places lengths))) (entry .edges)
+pub record Walked (places : List ℤ) (lengths : List ℕ) (g : ℕ) (entry exit : SlideLent) : Type 0 where
+  pub sides : exit .sides ≡ written (map sideCode (walkSides places lengths g)) (entry .sides)
+  pub edges : exit .edges ≡ written (map placeOf (leftmostEdges g (plainMarks places lengths) (walkSides places lengths g))) (entry .edges)

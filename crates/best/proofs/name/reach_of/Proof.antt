@@ -1,9 +1,9 @@
 -- `best::name::reach_of` meets its contract: the two tests tell no label, a leftward and a rightward one apart.
-use mathlib.Core.Path.{_≡_, sym, _∙_, ap}
+use mathlib.Core.Path.{_≡_, _∙_, ap}
 use mathlib.Core.Bool.{true}
-use Prim.Native.Nat.{ℕ, _+_, _-_, _/_, _≤_}
+use mathlib.Core.Logic.{⊎-elim}
+use Prim.Native.Nat.{ℕ, _-_, _/_, _≤_}
 use native.Mathlib.Omega.{arith}
-use native.Mathlib.Nat.{add-zero}
 use lib.IntN.{ℤ, pos}
 use lib.ListN.{getD}
 use Rattle.geometry.specs.Dot.{dot}
@@ -42,7 +42,7 @@ dot-of-requires : tie.Need-dot-of-requires
 dot-of-requires c κs = search needs
 
 returns : tie.Need-returns
-returns c = c .dot-of .ensures ∙ reach-of-none 0 _ _ _ (c .before .if1 .taken)
+returns c = c .dot-of .ensures ∙ reach-of-none _ _ _ _ (c .before .if1 .taken)
 
 sub-i : tie.Need-sub-i
 sub-i c = search needs
@@ -56,26 +56,40 @@ shared-slice-copy-out-dot-of c = search needs
 dot-of-requires-2 : tie.Need-dot-of-requires-2
 dot-of-requires-2 c κs = search needs
 
-returns-2 : tie.Need-returns-2
-returns-2 c = place-is (c .before) ∙ sym (add-zero _) ∙ reach-of-left 0 _ _ _ (named (c .before)) (c .if2 .taken)
+shared-slice-read-end : tie.Need-shared-slice-read-end
+shared-slice-read-end c = search needs
 
-shared-slice-read-result : tie.Need-shared-slice-read-result
-shared-slice-read-result c = search needs
+cast-end : tie.Need-cast-end
+cast-end c = omega (arith, c .shared-slice-known2 .given (index (start (c .before .before))))
 
-cast-result : tie.Need-cast-result
-cast-result c = omega (arith, c .shared-slice-known2 .given (index (start (c .before .before))))
+add-end : tie.Need-add-end
+add-end c =
+    let point = c .before .before in
+    let a = start point in
+    rw (place-is point) (omega (arith, range-dots (place a) (place-good a (named point)), c .shared-slice-known2 .given (index a)))
 
 add-result : tie.Need-add-result
 add-result c =
-    let a = start (c .before .before) in
-    let good = place-good a (named (c .before .before)) in
-    rw (place-is (c .before .before)) (omega (arith, range-dots (place a) good, c .shared-slice-known2 .given (index a)))
+    let joined = c .before in
+    let point = joined .before in
+    let a = start point in
+    let dots = range-dots (place a) (place-good a (named point)) in
+    ⊎-elim
+    (λ w. omega (arith, w .1, place-is point, dots, a .pre .gap-narrow))
+    (λ w. omega (arith, w .2, place-is point, dots, w .1 .given (index a), a .pre .gap-narrow))
+    (joined .if2 .came)
 
-returns-3 : tie.Need-returns-3
-returns-3 c =
-    let a = start (c .before .before) in
-    ap (λ (n : ℕ). n + getD (a .args .lengths .now) (index a) 0) (place-is (c .before .before))
-    ∙ sym (add-zero _) ∙ reach-of-right 0 _ _ _ (named (c .before .before)) (c .before .if2 .left)
+returns-2 : tie.Need-returns-2
+returns-2 c =
+    let joined = c .before in
+    let point = joined .before in
+    let a = start point .args in
+    let left = reach-of-left (a .gap) (a .places .now) (a .lengths .now) (a .name) (named point) in
+    let right = reach-of-right (a .gap) (a .places .now) (a .lengths .now) (a .name) (named point) in
+    ⊎-elim
+    (λ w. omega (arith, w .1, place-is point, left (w .0 .taken)))
+    (λ w. omega (arith, w .2, place-is point, right (w .0 .left)))
+    (joined .if2 .came)
 
 pub reach-of-spec : {M : Type 1} → statement M
 reach-of-spec =
@@ -87,8 +101,8 @@ reach-of-spec =
     mul-dot-of
     shared-slice-copy-out-dot-of
     dot-of-requires-2
-    returns-2
-    shared-slice-read-result
-    cast-result
+    shared-slice-read-end
+    cast-end
+    add-end
     add-result
-    returns-3)
+    returns-2)

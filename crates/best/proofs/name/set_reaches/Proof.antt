@@ -9,11 +9,11 @@ use Rattle.best.proofs.name.set_reaches.Statement.{statement}
 use Rattle.best.proofs.name.set_reaches.Tie as tie
 
 abbrev Inv-loop : tie.InvT-loop
-Inv-loop places lengths reaches₀ name₀ reaches name =
-    (name ≤ namesBefore (length places)) × (length reaches ≡ length reaches₀) × ReachesBelow places lengths reaches name
+Inv-loop places lengths gap reaches₀ name₀ reaches name =
+    (name ≤ namesBefore (length places)) × (length reaches ≡ length reaches₀) × ReachesBelow gap places lengths reaches name
 
 abbrev μ-loop : tie.MeasureT-loop
-μ-loop places lengths reaches₀ name₀ reaches name = namesBefore (length places) - name
+μ-loop places lengths gap reaches₀ name₀ reaches name = namesBefore (length places) - name
 
 abbrev start : tie.At-loop Inv-loop μ-loop → tie.Start Inv-loop μ-loop
 start c = c .before .before .before
@@ -30,7 +30,7 @@ add-loop c = omega arith
 reach-of-requires : tie.Need-reach-of-requires Inv-loop μ-loop
 reach-of-requires c κs =
     let known = start (c .before) .pre .0 in
-    record { same-lengths = known .same-lengths; places-good = known .places-good; within = omega arith }
+    record { same-lengths = known .same-lengths; places-good = known .places-good; gap-narrow = known .gap-narrow; within = omega arith }
 
 mul-reaches : tie.Need-mul-reaches Inv-loop μ-loop
 mul-reaches c = omega arith
@@ -47,7 +47,7 @@ loop-less c = omega arith
 loop-again : tie.Need-loop-again Inv-loop μ-loop
 loop-again c =
     let loop = c .before .before .loop in
-    let more = one-more-reach _ _ (loop .reaches) (loop .name) _ (omega arith) (loop .inv .2) (c .reach-of .ensures) in
+    let more = one-more-reach _ _ _ (loop .reaches) (loop .name) _ (omega arith) (loop .inv .2) (c .reach-of .ensures) in
     (omega arith, simp length-set (loop .inv .1), more)
 
 same-length : tie.Need-same-length Inv-loop μ-loop

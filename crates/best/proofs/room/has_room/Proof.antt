@@ -1,7 +1,7 @@
--- `best::room::has_room` meets its contract: the label begins where the definition says, and the reach of its side is looked up.
+-- `best::room::has_room` meets its contract: the label begins where the definition says, and its side's reach is that of its last label.
 use mathlib.Core.Path.{_≡_, _∙_, ap}
 use mathlib.Core.Bool.{true}
-use Prim.Native.Nat.{ℕ, _/_, _≤_}
+use Prim.Native.Nat.{ℕ}
 use native.Mathlib.Omega.{arith}
 use lib.IntN.{ℤ, pos}
 use lib.ListN.{getD}
@@ -23,7 +23,7 @@ abbrev copied : tie.After-begin-of → tie.After-dot-of-arg
 copied c = c .before .before .before
 
 abbrev start : tie.After-dot-of-arg → tie.Start
-start c = c .before .before .before
+start c = c .before .before
 
 abbrev place : tie.Start → ℤ
 place a = getD (a .args .places .now) (a .args .k) (pos 0)
@@ -35,10 +35,10 @@ abbrev position : tie.Start → Position
 position a = positionOf (a .args .p)
 
 abbrev reachAbove : tie.Start → ℕ
-reachAbove a = reachNamed 0 (a .args .places .now) (a .args .lengths .now) (a .args .above)
+reachAbove a = reachNamed (a .args .gap) (a .args .places .now) (a .args .lengths .now) (a .args .above)
 
 abbrev reachBelow : tie.Start → ℕ
-reachBelow a = reachNamed 0 (a .args .places .now) (a .args .lengths .now) (a .args .below)
+reachBelow a = reachNamed (a .args .gap) (a .args .places .now) (a .args .lengths .now) (a .args .below)
 
 place-good : (a : tie.Start) → placeInRange (place a) ≡ true
 place-good a = every-at placeInRange (a .args .places .now) (pos 0) (a .args .k) (a .pre .places-good) (a .pre .in-strip)
@@ -51,10 +51,6 @@ begin-is c =
     let a = start (copied c) in
     c .begin-of .ensures
     ∙ ap (λ (n : ℕ). leftEnd (labelOf n (getD (a .args .lengths .now) (a .args .k) 0)) (directionAt (position a))) (place-is (c .before .before))
-
-reach : (a : tie.Start) (name : ℕ) → name / 2 ≤ a .args .k
-    → getD (a .args .reaches .now) name 0 ≡ reachNamed 0 (a .args .places .now) (a .args .lengths .now) name
-reach a name h = a .pre .reaches-known .reach name (omega (arith, a .pre .in-strip))
 
 mul-dot-of : tie.Need-mul-dot-of
 mul-dot-of c = search needs
@@ -69,21 +65,18 @@ shared-slice-read-begin-of : tie.Need-shared-slice-read-begin-of
 shared-slice-read-begin-of c = search needs
 
 cast-begin-of : tie.Need-cast-begin-of
-cast-begin-of c = omega (arith, c .shared-slice-known3 .given (start (c .before .before) .args .k))
+cast-begin-of c = omega (arith, c .shared-slice-known2 .given (start (c .before .before) .args .k))
 
 begin-of-requires : tie.Need-begin-of-requires
 begin-of-requires c κs =
     let a = start (c .before .before) in
-    rw (place-is (c .before)) (omega (arith, range-dots (place a) (place-good a), c .shared-slice-known3 .given (a .args .k)))
+    rw (place-is (c .before)) (omega (arith, range-dots (place a) (place-good a), c .shared-slice-known2 .given (a .args .k)))
 
 is-above-requires : tie.Need-is-above-requires
 is-above-requires c κs = search needs
 
-mul-is-clear : tie.Need-mul-is-clear
-mul-is-clear c = search needs
-
-shared-slice-read-is-clear : tie.Need-shared-slice-read-is-clear
-shared-slice-read-is-clear c = search needs
+reach-of-requires : tie.Need-reach-of-requires
+reach-of-requires c κs = search needs
 
 is-clear-requires : tie.Need-is-clear-requires
 is-clear-requires c κs = search needs
@@ -92,17 +85,14 @@ returns : tie.Need-returns
 returns c =
     let tested = c .before .before .before in
     let a = start (copied (tested .before)) in
-    (rw (begin-is (tested .before), reach a (a .args .above) (omega arith)) at (c .is-clear .ensures))
+    (rw (begin-is (tested .before), c .before .reach-of .ensures) at (c .is-clear .ensures))
     ∙ room-above (reachAbove a) (reachBelow a) (mark a) (position a) (answered (tested .is-above .ensures) (c .before .before .if1 .taken))
 
 is-below-requires : tie.Need-is-below-requires
 is-below-requires c κs = search needs
 
-mul-is-clear-2 : tie.Need-mul-is-clear-2
-mul-is-clear-2 c = search needs
-
-shared-slice-read-is-clear-2 : tie.Need-shared-slice-read-is-clear-2
-shared-slice-read-is-clear-2 c = search needs
+reach-of-requires-2 : tie.Need-reach-of-requires-2
+reach-of-requires-2 c κs = search needs
 
 is-clear-requires-2 : tie.Need-is-clear-requires-2
 is-clear-requires-2 c κs = search needs
@@ -112,7 +102,7 @@ returns-2 c =
     let tested = c .before .before .before in
     let begun = tested .before .before .before in
     let a = start (copied begun) in
-    (rw (begin-is begun, reach a (a .args .below) (omega arith)) at (c .is-clear2 .ensures))
+    (rw (begin-is begun, c .before .reach-of2 .ensures) at (c .is-clear2 .ensures))
     ∙ room-below (reachAbove a) (reachBelow a) (mark a) (position a) (answered (tested .is-below .ensures) (c .before .before .if2 .taken))
 
 returns-3 : tie.Need-returns-3
@@ -133,13 +123,11 @@ has-room-spec =
     cast-begin-of
     begin-of-requires
     is-above-requires
-    mul-is-clear
-    shared-slice-read-is-clear
+    reach-of-requires
     is-clear-requires
     returns
     is-below-requires
-    mul-is-clear-2
-    shared-slice-read-is-clear-2
+    reach-of-requires-2
     is-clear-requires-2
     returns-2
     returns-3)

@@ -6,6 +6,7 @@ use lib.ListN.{length, drop}
 use Rattle.geometry.specs.Strip.{Strip, strip}
 use Rattle.geometry.proofs.Lent.{drop-cleared}
 use Rattle.best.specs.Best.{workNamed}
+use Rattle.best.specs.inner.Names.{AtEveryGap}
 use Rattle.best.specs.inner.Table.{Filled}
 use Rattle.best.proofs.TableRenewed.{none-renewed, all-renewed, cleared-table}
 use Rattle.best.proofs.RenewedInParts.{ready-again}
@@ -14,7 +15,8 @@ use Rattle.best.proofs.table.fill.Tie as tie
 
 abbrev Inv-loop : tie.InvT-loop
 Inv-loop places lengths weights reaches work₀ k₀ work k =
-    (k ≤ length places) × (length work ≡ length work₀) × Filled 0 (strip places lengths weights) k work ×
+    (k ≤ length places) × (length work ≡ length work₀) ×
+    AtEveryGap (strip places lengths weights) reaches (λ g. Filled g (strip places lengths weights) k work) ×
     (drop workNamed work ≡ drop workNamed work₀)
 
 abbrev μ-loop : tie.MeasureT-loop
@@ -37,7 +39,8 @@ loop-holds : tie.Need-loop-holds Inv-loop μ-loop
 loop-holds c =
     let a = start (cleared c) in
     let zeros = cleared c .clear in
-    (omega arith, refl, cleared-table 0 (marks a) _ (zeros .last .0) (a .args .work .now) (a .pre .checked) (zeros .ensures), refl)
+    let old = a .args .work .now in
+    (omega arith, refl, λ g known. cleared-table g (marks a) _ (zeros .last .0) old (a .pre .checked) (zeros .ensures), refl)
 
 sub-k : tie.Need-sub-k Inv-loop μ-loop
 sub-k c = omega arith
@@ -51,7 +54,7 @@ renew-requires c κs =
     record {
       ready = ready-again (a .args .work .now) (loop .work) (a .pre) (loop .inv .1 ∙ before-loop .clear .kept .0);
       in-strip = omega arith;
-      partly = none-renewed 0 (marks a) (loop .k - 1) (loop .work) (rw one-more at (loop .inv .2));
+      partly = λ g known. none-renewed g (marks a) (loop .k - 1) (loop .work) (rw one-more at (loop .inv .2 g known));
     }
 
 loop-less : tie.Need-loop-less Inv-loop μ-loop
@@ -62,9 +65,12 @@ loop-again c =
     let called = c .before .before in
     let loop = called .before .before .before in
     let a = start (cleared (loop .before)) in
-    let done = called .renew .ensures in
-    let filled = all-renewed 0 (marks a) (loop .loop .k - 1) _ (done .partly) in
-    (omega arith, called .renew .kept .1 .1 .1 .1 .0 ∙ loop .loop .inv .1, filled, done .rest-kept ∙ loop .loop .inv .3)
+    let done = called .renew .ensures in (
+      omega arith,
+      called .renew .kept .1 .1 .1 .1 .0 ∙ loop .loop .inv .1,
+      λ g known. all-renewed g (marks a) (loop .loop .k - 1) _ (done .partly g known),
+      done .rest-kept ∙ loop .loop .inv .3,
+    )
 
 same-length : tie.Need-same-length Inv-loop μ-loop
 same-length c = c .before .loop .inv .1 ∙ cleared (c .before .before) .clear .kept .0
@@ -75,7 +81,7 @@ returns c =
     let zeros = cleared (c .before .before) .clear in
     let old = start (cleared (c .before .before)) .args .work .now in
     let first : c .before .loop .k ≡ 0 = omega arith in
-    (rw first at (h .2), h .3 ∙ drop-cleared workNamed 0 (zeros .last .0) old (zeros .ensures))
+    (λ g known. rw first at (h .2 g known), h .3 ∙ drop-cleared workNamed 0 (zeros .last .0) old (zeros .ensures))
 
 pub fill-spec : {M : Type 1} → statement M
 fill-spec =

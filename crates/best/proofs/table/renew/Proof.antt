@@ -12,7 +12,7 @@ use Rattle.best.proofs.table.renew.Tie as tie
 
 abbrev Inv-loop : tie.InvT-loop
 Inv-loop places lengths weights reaches work₀ k above₀ work above =
-    (above ≤ namesBefore k) × (length work ≡ length work₀) × Renewed (strip places lengths weights) k (above * names) work₀ work
+    (above ≤ namesBefore k) × (length work ≡ length work₀) × Renewed (strip places lengths weights) reaches k (above * names) work₀ work
 
 abbrev μ-loop : tie.MeasureT-loop
 μ-loop places lengths weights reaches work₀ k above₀ work above = namesBefore k - above
@@ -25,7 +25,7 @@ abbrev marks : tie.Start Inv-loop μ-loop → Strip
 marks a = strip (a .args .places .now) (a .args .lengths .now) (a .args .weights .now)
 
 loop-holds : tie.Need-loop-holds Inv-loop μ-loop
-loop-holds c = let a = start c in (omega arith, refl, renewed-none (marks a) (a .args .k) _ _ _ _ (omega arith) (a .pre))
+loop-holds c = let a = start c in (omega arith, refl, renewed-none (marks a) _ (a .args .k) _ _ _ (omega arith) (a .pre))
 
 mul-loop : tie.Need-mul-loop Inv-loop μ-loop
 mul-loop c = omega arith
@@ -37,7 +37,7 @@ renew-row-requires : tie.Need-renew-row-requires Inv-loop μ-loop
 renew-row-requires c κs =
     let loop = c .before .before in
     let a = start (loop .before) in
-    let so-far = renewed-so-far (marks a) (a .args .k) _ _ (loop .loop .work) _ _ (a .pre) (loop .loop .inv .1) (loop .loop .inv .2) in
+    let so-far = renewed-so-far (marks a) _ (a .args .k) _ (loop .loop .work) _ _ (a .pre) (loop .loop .inv .1) (loop .loop .inv .2) in
     (so-far, omega arith)
 
 add-above : tie.Need-add-above Inv-loop μ-loop
@@ -54,7 +54,7 @@ loop-again c =
     let part = called .renew-row in (
       omega arith,
       part .kept .1 .1 .1 .1 .0 ∙ loop .loop .inv .1,
-      renewed-more (marks a) (a .args .k) _ (loop .loop .work) _ _ _ _ (omega arith) (loop .loop .inv .2) (part .ensures),
+      renewed-more (marks a) _ (a .args .k) _ (loop .loop .work) _ _ _ _ (omega arith) (loop .loop .inv .2) (part .ensures),
     )
 
 same-length : tie.Need-same-length Inv-loop μ-loop
@@ -64,7 +64,7 @@ returns : tie.Need-returns Inv-loop μ-loop
 returns c =
     let loop = c .before .loop in
     let a = start (c .before .before) in
-    renewed-at (marks a) (a .args .k) _ (loop .work) _ _ (let e : loop .above ≡ namesBefore (a .args .k) = omega arith in rw e refl) (loop .inv .2)
+    renewed-at (marks a) _ (a .args .k) _ (loop .work) _ _ (let e : loop .above ≡ namesBefore (a .args .k) = omega arith in rw e refl) (loop .inv .2)
 
 pub renew-spec : {M : Type 1} → statement M
 renew-spec =

@@ -9,16 +9,15 @@ use Rattle.best.specs.inner.Names.{namesBefore}
 use Rattle.best.specs.inner.Table.{cellOf, Renewing, Renewed}
 use Rattle.best.specs.inner.Row.{RowOf}
 use Rattle.best.proofs.TableRenewed.{skip-rest}
-use Rattle.best.proofs.CellsAreSmall.{before-partly}
-use Rattle.best.proofs.RowGivesCells.{cell-asked, one-cell-more}
+use Rattle.best.proofs.RowGivesCells.{row-asked, cell-asked, one-cell-more}
 use Rattle.best.proofs.RenewedInParts.{renewed-none, renewed-so-far, renewed-more}
 use Rattle.best.proofs.table.renew_row.Statement.{statement}
 use Rattle.best.proofs.table.renew_row.Tie as tie
 
 abbrev Inv-loop : tie.InvT-loop
 Inv-loop places lengths weights reaches work₀ k above row below₀ work below =
-    (below ≤ namesBefore k) × (length work ≡ length work₀) × Renewed (strip places lengths weights) k (cellOf above below) work₀ work
-    × RowOf (strip places lengths weights) work k above row
+    (below ≤ namesBefore k) × (length work ≡ length work₀) × Renewed (strip places lengths weights) reaches k (cellOf above below) work₀ work
+    × RowOf (strip places lengths weights) reaches work k above row
 
 abbrev μ-loop : tie.MeasureT-loop
 μ-loop places lengths weights reaches work₀ k above row below₀ work below = namesBefore k - below
@@ -39,18 +38,17 @@ next-cell : (c : tie.At-loop Inv-loop μ-loop) → let a = entry (c .before) in
     Renewing (marks a) (a .args .reaches .now) (c .loop .work) (a .args .k) (cellOf (a .args .above) (c .loop .below))
 next-cell c =
     let a = entry (c .before) in
-    renewed-so-far (marks a) (a .args .k) _ _ (c .loop .work) _ _ (a .pre .0) (c .loop .inv .1) (c .loop .inv .2)
+    renewed-so-far (marks a) _ (a .args .k) _ (c .loop .work) _ _ (a .pre .0) (c .loop .inv .1) (c .loop .inv .2)
 
 row-of-requires : tie.Need-row-of-requires Inv-loop μ-loop
 row-of-requires c κs =
     let a = start (c .before) in
-    let h = a .pre .0 in
-    before-partly 0 (marks a) _ _ (a .args .k) (a .args .above) 0 (h .ready) (h .in-strip) (omega arith) (omega arith) _ (h .partly)
+    row-asked (marks a) _ _ (a .args .k) _ (a .args .above) (a .pre .0) (a .pre .1)
 
 loop-holds : tie.Need-loop-holds Inv-loop μ-loop
 loop-holds c =
     let a = entry c in
-    (omega arith, refl, renewed-none (marks a) (a .args .k) _ _ _ _ (omega arith) (a .pre .0), c .row-of .ensures)
+    (omega arith, refl, renewed-none (marks a) _ (a .args .k) _ _ _ (omega arith) (a .pre .0), c .row-of .ensures)
 
 mul-loop : tie.Need-mul-loop Inv-loop μ-loop
 mul-loop c = omega arith
@@ -80,7 +78,7 @@ loop-again c =
     let more = one-cell-more (marks a) _ (loop .loop .work) (a .args .k) _ _ _ shared (next-cell loop) (a .pre .1) (omega arith) _ (part .ensures) in (
       omega arith,
       part .kept .1 .0 ∙ loop .loop .inv .1,
-      renewed-more (marks a) (a .args .k) _ (loop .loop .work) _ _ _ _ (omega arith) (loop .loop .inv .2) (more .0),
+      renewed-more (marks a) _ (a .args .k) _ (loop .loop .work) _ _ _ _ (omega arith) (loop .loop .inv .2) (more .0),
       more .1,
     )
 
@@ -92,8 +90,11 @@ returns c =
     let loop = c .before .loop in
     let a = entry (c .before .before) in
     let done = loop .inv .2 in
-    let row = skip-rest 0 (marks a) (a .args .k) (loop .work) (a .args .above) (loop .below) (omega arith) (omega arith) (done .partly) in
-    record { partly = row; rest-kept = done .rest-kept }
+    record {
+      partly = λ g known.
+          skip-rest g (marks a) (a .args .k) (loop .work) (a .args .above) (loop .below) (omega arith) (omega arith) (done .partly g known);
+      rest-kept = done .rest-kept;
+    }
 
 pub renew-row-spec : {M : Type 1} → statement M
 renew-row-spec =

@@ -22,8 +22,7 @@ place a = getD (a .args .places .now) (a .args .k) (pos 0)
 
 place-good : (a : tie.Start) → placeInRange (place a) ≡ true
 place-good a =
-    let h = a .pre .room in
-    every-at placeInRange (a .args .places .now) (pos 0) (a .args .k) (h .places-good) (h .in-strip)
+    every-at placeInRange (a .args .places .now) (pos 0) (a .args .k) (a .pre .places-good) (a .pre .in-strip)
 
 place-is : (c : tie.After-dot-of) → c .dot-of .result ≡ dot (place (start (c .before)))
 place-is c = c .dot-of .ensures ∙ ap dot (fetched (place (start (c .before))) (c .before .dot-of-arg .given))
@@ -75,7 +74,7 @@ returns c =
     let placed = weighed .before .before in
     let a = start (placed .before) in
     record {
-      reach-is = a .pre .room .reaches-known .reach (a .args .above) (omega arith);
+      reach-is = refl;
       left-is = ap (λ n. n - getD (a .args .lengths .now) (a .args .k) 0) (place-is placed);
       place-is = place-is placed;
       weight-is = refl;

@@ -1,7 +1,7 @@
 -- `cases::jobs::truncated` is safe and ends: the test shows that the part is as long as its count.
 use borrow.Author.Needs.{needs}
 use native.Mathlib.Omega.{arith}
-use Rattle.cases.proofs.Parts.{taken}
+use Rattle.agreed.proofs.Parts.{taken}
 use Rattle.cases.proofs.jobs.truncated.Statement.{statement}
 use Rattle.cases.proofs.jobs.truncated.Tie as tie
 

@@ -1,7 +1,7 @@
 -- `cases::listings::spaced_gives` is safe and ends: the contract shows that the part is as long as its count.
 use borrow.Author.Needs.{needs}
 use native.Mathlib.Omega.{arith}
-use Rattle.cases.proofs.Parts.{taken}
+use Rattle.agreed.proofs.Parts.{taken}
 use Rattle.cases.proofs.listings.spaced_gives.Statement.{statement}
 use Rattle.cases.proofs.listings.spaced_gives.Tie as tie
 

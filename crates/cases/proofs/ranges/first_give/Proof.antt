@@ -1,7 +1,7 @@
 -- `cases::ranges::first_give` is safe and ends: the contract shows that each part is as long as its count.
 use borrow.Author.Needs.{needs}
 use native.Mathlib.Omega.{arith}
-use Rattle.cases.proofs.Parts.{taken}
+use Rattle.agreed.proofs.Parts.{taken}
 use Rattle.cases.proofs.ranges.first_give.Statement.{statement}
 use Rattle.cases.proofs.ranges.first_give.Tie as tie
 

@@ -21,10 +21,10 @@ use Rattle.full.proofs.table.fill.Statement.{statement}
 use Rattle.full.proofs.table.fill.Tie as tie
 
 abbrev Inv-loop : tie.InvT-loop
-Inv-loop places lengths work₀ next₀ i₀ work next i = Filling places lengths work₀ work (next .reaches) (next .count) i
+Inv-loop places lengths gap work₀ next₀ i₀ work next i = Filling places lengths gap work₀ work (next .reaches) (next .count) i
 
 abbrev μ-loop : tie.MeasureT-loop
-μ-loop places lengths work₀ next₀ i₀ work next i = i
+μ-loop places lengths gap work₀ next₀ i₀ work next i = i
 
 -- the last mark's row is stored: nothing beyond the named part is touched, and the work area is as long as it was
 abbrev Stored : Type 0
@@ -79,9 +79,11 @@ Kept = tie.After-kept-before Inv-loop μ-loop
 abbrev reading : Kept → Placed
 reading k = placed (k .before .before)
 
-kept-is : (k : Kept) → Counted
-    (before (start (reading k) .args .places .now) (start (reading k) .args .lengths .now) (turn (reading k) .loop .i - 1) (turn (reading k) .loop .i)
-    (turn (reading k) .loop .next .reaches)) (k .kept-before .result .reaches) (k .kept-before .result .count)
+kept-is : (k : Kept)
+    → let a = start (reading k) .args in
+    let loop = turn (reading k) .loop in
+    Counted (before (a .places .now) (a .lengths .now) (a .gap) (loop .i - 1) (loop .i) (loop .next .reaches)) (k .kept-before .result .reaches)
+    (k .kept-before .result .count)
 kept-is k = rw (before-read (reading k), here-read (k .before .before)) at (k .kept-before .ensures)
 
 returns : tie.Need-returns Inv-loop μ-loop
@@ -100,7 +102,7 @@ store-requires : tie.Need-store-requires Inv-loop μ-loop
 store-requires c κs = omega arith
 
 loop-holds : tie.Need-loop-holds Inv-loop μ-loop
-loop-holds c = filling-last _ _ _ _ _ _ (entered c .pre) (omega arith) refl (c .before .store .ensures)
+loop-holds c = filling-last _ _ _ _ _ _ _ (entered c .pre) (omega arith) refl (c .before .store .ensures)
 
 sub-kept-before : tie.Need-sub-kept-before Inv-loop μ-loop
 sub-kept-before c = omega arith
@@ -131,7 +133,7 @@ kept-before-requires c κs =
     let p = placed (c .before) in
     let i = turn p .loop .i in
     let inside = turn p .loop .inv .inside in
-    (rw (before-read p) (in-range p (i - 1) (omega arith)), rw (here-read (c .before)) (in-range p i inside))
+    (rw (before-read p) (in-range p (i - 1) (omega arith)), rw (here-read (c .before)) (in-range p i inside), turn p .loop .inv .ready .gap-narrow)
 
 same-length : tie.Need-same-length Inv-loop μ-loop
 same-length c =
@@ -141,7 +143,7 @@ returns-2 : tie.Need-returns-2 Inv-loop μ-loop
 returns-2 c =
     let k = c .before .before in
     let t = turn (reading k) in
-    filling-stops _ _ _ _ _ _ _ (t .loop .inv) _ _ _ (omega arith) (kept-is k) _ (omega arith) (rest-kept (t .before))
+    filling-stops _ _ _ _ _ _ _ _ (t .loop .inv) _ _ _ (omega arith) (kept-is k) _ (omega arith) (rest-kept (t .before))
 
 sub-i-2 : tie.Need-sub-i-2 Inv-loop μ-loop
 sub-i-2 c = omega arith
@@ -157,13 +159,13 @@ loop-again c =
     let goes-on = c .before .before .before in
     let k = goes-on .before .before in
     let t = turn (reading k) in
-    filling-more _ _ _ _ _ _ _ (t .loop .inv) _ _ _ (omega arith) (kept-is k) _ (c .before .store2 .ensures)
+    filling-more _ _ _ _ _ _ _ _ (t .loop .inv) _ _ _ (omega arith) (kept-is k) _ (c .before .store2 .ensures)
 
 same-length-2 : tie.Need-same-length-2 Inv-loop μ-loop
 same-length-2 c = let t = c .before in t .loop .inv .long ∙ as-long (t .before)
 
 returns-3 : tie.Need-returns-3 Inv-loop μ-loop
-returns-3 c = let t = c .before in filling-done _ _ _ _ _ _ _ _ (t .loop .inv) (omega arith) (rest-kept (t .before))
+returns-3 c = let t = c .before in filling-done _ _ _ _ _ _ _ _ _ (t .loop .inv) (omega arith) (rest-kept (t .before))
 
 pub fill-spec : {M : Type 1} → statement M
 fill-spec =

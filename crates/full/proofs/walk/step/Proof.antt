@@ -1,5 +1,5 @@
 -- `full::walk::step` meets its contract: the three tests decide the position, and with it which reach becomes the label's end.
-use mathlib.Core.Path.{_≡_, sym}
+use mathlib.Core.Path.{_≡_, sym, ap}
 use mathlib.Core.Bool.{Bool, true, false, cond, _&&_}
 use Prim.Native.Nat.{ℕ, _+_, _-_, _<_}
 use native.Mathlib.Omega.{arith}
@@ -11,24 +11,25 @@ use mir.Syntax.{w16}
 use mir.Val.{toZ, ofZ}
 use Rattle.geometry.specs.Dot.{dot}
 use Rattle.geometry.specs.Position.{code}
-use Rattle.geometry.proofs.Dots.{back, fetched}
+use Rattle.geometry.proofs.Dots.{back, fetched, InDots, range-dots}
 use Rattle.full.specs.inner.Rest.{firstPassed, Stepped}
 use Rattle.full.proofs.walk.step.Statement.{statement}
 use Rattle.full.proofs.walk.step.Tie as tie
 
 -- the reaches by the tests of positions 2, 3 and 1 are those after the position that the tests give
-stepped : (two three one : Bool) (a b place : ℤ) (right length position : ℕ) (a′ b′ : ℤ) → right ≡ dot place + length
+stepped : (two three one : Bool) (g : ℕ) (a b place : ℤ) (near far length position : ℕ) (a′ b′ : ℤ) → near ≡ dot place + g
+    → far ≡ dot place + length + g
     → position ≡ code (firstPassed two three one)
-    → dot a′ ≡ cond two (dot place) (cond three (dot a) (cond one right (dot a)))
-    → dot b′ ≡ cond two (dot b) (cond three (dot place) (cond one (dot b) right))
-    → mag a′ < 32768 → mag b′ < 32768 → Stepped a b place length (firstPassed two three one) position a′ b′
-stepped true three one a b place right length position a′ b′ ends number up down ha hb =
+    → dot a′ ≡ cond two near (cond three (dot a) (cond one far (dot a)))
+    → dot b′ ≡ cond two (dot b) (cond three near (cond one (dot b) far))
+    → mag a′ < 32768 → mag b′ < 32768 → Stepped g a b place length (firstPassed two three one) position a′ b′
+stepped true three one g a b place near far length position a′ b′ near-is far-is number up down ha hb =
     record { position-is = number; above-is = λ w. omega arith; below-is = λ w. down; above-held = ha; below-held = hb }
-stepped false true one a b place right length position a′ b′ ends number up down ha hb =
+stepped false true one g a b place near far length position a′ b′ near-is far-is number up down ha hb =
     record { position-is = number; above-is = λ w. up; below-is = λ w. omega arith; above-held = ha; below-held = hb }
-stepped false false true a b place right length position a′ b′ ends number up down ha hb =
+stepped false false true g a b place near far length position a′ b′ near-is far-is number up down ha hb =
     record { position-is = number; above-is = λ w. omega arith; below-is = λ w. down; above-held = ha; below-held = hb }
-stepped false false false a b place right length position a′ b′ ends number up down ha hb =
+stepped false false false g a b place near far length position a′ b′ near-is far-is number up down ha hb =
     record { position-is = number; above-is = λ w. up; below-is = λ w. omega arith; above-held = ha; below-held = hb }
 
 -- a label on the side with the reach own, which begins at left, leaves the rest possible
@@ -39,11 +40,31 @@ leaves own left other bound = leb (dot own) left && leb (dot other) (dot bound)
 abbrev Tested : Type 0
 Tested = tie.After-leaves-rest3
 
-abbrev righted : Tested → tie.After-right-end
-righted t = t .before .before .before
+abbrev reached : Tested → tie.After-further3
+reached t = t .before .before .before
+
+abbrev neared : tie.After-further3 → tie.After-further
+neared r = r .before .before
+
+abbrev begun : tie.After-further → tie.Start
+begun n = n .before .before
 
 abbrev start : Tested → tie.Start
-start t = righted t .before .before
+start t = begun (neared (reached t))
+
+-- a place in range leaves room for a label and the gap
+in-dots : (s : tie.Start) → InDots (dot (s .args .place))
+in-dots s = range-dots (s .args .place) (s .pre .0)
+
+-- the place, the near reach and the right end as they were read
+place-read : (s : tie.Start) → dot (toZ w16 (ofZ w16 (s .args .place))) ≡ dot (s .args .place)
+place-read s = ap dot (back (s .fits .place))
+
+near-read : (c : tie.After-further) → dot (toZ w16 (ofZ w16 (c .further .result))) ≡ dot (c .further .result)
+near-read c = ap dot (fetched (c .further .result) (c .further .ok))
+
+right-read : (c : tie.After-further2) → dot (toZ w16 (ofZ w16 (c .further2 .result))) ≡ dot (c .further2 .result)
+right-read c = ap dot (fetched (c .further2 .result) (c .further2 .ok))
 
 module _ (t : Tested) where
   abbrev place : ℕ
@@ -52,13 +73,19 @@ module _ (t : Tested) where
   abbrev length : ℕ
   length = start t .args .length
 
-  left-is : dot (toZ w16 (ofZ w16 (righted t .before .left-end .result))) ≡ place - length
+  left-is : dot (toZ w16 (ofZ w16 (neared (reached t) .before .left-end .result))) ≡ place - length
   left-is =
-      rw (fetched (righted t .before .left-end .result) (righted t .before .left-end .ok))
-      (rw (back (start t .fits .place)) at (righted t .before .left-end .ensures))
+      let left = neared (reached t) .before .left-end in
+      rw (fetched (left .result) (left .ok)) (rw (back (start t .fits .place)) at (left .ensures))
 
-  right-is : dot (righted t .right-end .result) ≡ place + length
-  right-is = rw (back (start t .fits .place)) at (righted t .right-end .ensures)
+  near-is : dot (neared (reached t) .further .result) ≡ place + start t .args .gap
+  near-is = omega (arith, place-read (start t), neared (reached t) .further .ensures)
+
+  far-is : dot (reached t .further3 .result) ≡ place + length + start t .args .gap
+  far-is =
+      let far = reached t in
+      let right = far .before in
+      omega (arith, place-read (start t), near-read (neared far), right-read right, near-is, right .further2 .ensures, far .further3 .ensures)
 
   two-is : t .before .before .leaves-rest .result ≡ leaves (start t .args .above) (place - length) (start t .args .below) (start t .args .first)
   two-is =
@@ -75,8 +102,17 @@ module _ (t : Tested) where
 left-end-requires : tie.Need-left-end-requires
 left-end-requires c κs = search needs
 
-right-end-requires : tie.Need-right-end-requires
-right-end-requires c κs = search needs
+further-requires : tie.Need-further-requires
+further-requires c κs = omega (arith, in-dots (c .before), place-read (c .before))
+
+further-requires-2 : tie.Need-further-requires-2
+further-requires-2 c κs = omega (arith, in-dots (begun c), place-read (begun c), near-read c, c .further .ensures)
+
+further-requires-3 : tie.Need-further-requires-3
+further-requires-3 c κs =
+    let near = c .before in
+    let s = begun near in
+    omega (arith, in-dots s, place-read s, near-read near, right-read c, near .further .ensures, c .further2 .ensures)
 
 leaves-rest-requires : tie.Need-leaves-rest-requires
 leaves-rest-requires c κs = search needs
@@ -118,7 +154,8 @@ returns c =
     let above-right = below-right .before in
     let t = above-right .before in
     let held = start t .fits in
-    let right = righted t .right-end in
+    let near = neared (reached t) .further in
+    let far = reached t .further3 in
     rw (
       sym (two-is t),
       sym (three-is t),
@@ -126,16 +163,18 @@ returns c =
       fetched (above .if-passed5 .result) (above .if-passed5 .ok),
       fetched (c .if-passed6 .result) (c .if-passed6 .ok),
     )
-    (stepped (t .before .before .leaves-rest .result) (t .before .leaves-rest2 .result) (t .leaves-rest3 .result) _ _ _ (dot (right .result)) _ _ _ _
-    (right-is t)
+    (stepped (t .before .before .leaves-rest .result) (t .before .leaves-rest2 .result) (t .leaves-rest3 .result) _ _ _ _
+    (dot (near .result)) (dot (far .result)) _ _ _ _
+    (near-is t)
+    (far-is t)
     (numbered .number .ensures)
     (rw (
       fetched (above-rest .if-passed3 .result) (above-rest .if-passed3 .ok),
       above-rest .if-passed3 .ensures,
       fetched (above-right .if-passed .result) (above-right .if-passed .ok),
       above-right .if-passed .ensures,
-      fetched (right .result) (right .ok),
-      back (held .place),
+      fetched (far .result) (far .ok),
+      fetched (near .result) (near .ok),
       back (held .above),
     )
     at (above .if-passed5 .ensures))
@@ -144,8 +183,8 @@ returns c =
       below-rest .if-passed4 .ensures,
       fetched (below-right .if-passed2 .result) (below-right .if-passed2 .ok),
       below-right .if-passed2 .ensures,
-      fetched (right .result) (right .ok),
-      back (held .place),
+      fetched (far .result) (far .ok),
+      fetched (near .result) (near .ok),
       back (held .below),
     )
     at (c .if-passed6 .ensures))
@@ -157,7 +196,9 @@ step-spec =
     tie.close
     (tie.spec
     left-end-requires
-    right-end-requires
+    further-requires
+    further-requires-2
+    further-requires-3
     leaves-rest-requires
     leaves-rest-requires-2
     leaves-rest-requires-3

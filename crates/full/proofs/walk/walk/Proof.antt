@@ -15,10 +15,10 @@ use Rattle.full.proofs.walk.walk.Statement.{statement}
 use Rattle.full.proofs.walk.walk.Tie as tie
 
 abbrev Inv-loop : tie.InvT-loop
-Inv-loop places lengths work positions₀ at₀ i₀ positions at i = Walking places lengths work positions₀ positions (at .above) (at .below) i
+Inv-loop places lengths gap work positions₀ at₀ i₀ positions at i = Walking places lengths gap work positions₀ positions (at .above) (at .below) i
 
 abbrev μ-loop : tie.MeasureT-loop
-μ-loop places lengths work positions₀ at₀ i₀ positions at i = length places - i
+μ-loop places lengths gap work positions₀ at₀ i₀ positions at i = length places - i
 
 -- the current mark's place is read: what came, the turn, the place and a number of the work area
 abbrev Placed : Type 0
@@ -49,7 +49,7 @@ abbrev placed : tie.After-step-arg4 Inv-loop μ-loop → Placed
 placed r = let row = r .before .before in row .before .before
 
 loop-holds : tie.Need-loop-holds Inv-loop μ-loop
-loop-holds c = walking-start _ _ _ _ _ _ refl refl (omega arith) (omega arith) (c .before .before .pre)
+loop-holds c = walking-start _ _ _ _ _ _ _ refl refl (omega arith) (omega arith) (c .before .before .pre)
 
 mul-row : tie.Need-mul-row Inv-loop μ-loop
 mul-row c = omega arith
@@ -88,7 +88,7 @@ shared-slice-copy-out-step-4 : tie.Need-shared-slice-copy-out-step-4 Inv-loop μ
 shared-slice-copy-out-step-4 c = omega arith
 
 step-requires : tie.Need-step-requires Inv-loop μ-loop
-step-requires c κs = let p = placed (c .before .before) in rw (place-read p) (in-range p)
+step-requires c κs = let p = placed (c .before .before) in (rw (place-read p) (in-range p), turn p .loop .inv .ready .ready .gap-narrow)
 
 slice-write-positions : tie.Need-slice-write-positions Inv-loop μ-loop
 slice-write-positions c = omega arith
@@ -105,7 +105,7 @@ loop-again c =
     let p = placed row in
     let w = turn p .loop .inv in
     let first = 4 * turn p .loop .i in
-    walking-more _ _ _ _ _ _ _ _ w (p .before .loop-test .taken) (c .step .result .position) (c .step .result .above) (c .step .result .below)
+    walking-more _ _ _ _ _ _ _ _ _ w (p .before .loop-test .taken) (c .step .result .position) (c .step .result .above) (c .step .result .below)
     (rw (
       fetched (turn p .loop .at .above) (w .above-held),
       fetched (turn p .loop .at .below) (w .below-held),
@@ -121,7 +121,7 @@ same-length : tie.Need-same-length Inv-loop μ-loop
 same-length c = c .before .loop .inv .long
 
 returns : tie.Need-returns Inv-loop μ-loop
-returns c = walking-done _ _ _ _ _ _ _ _ (c .before .loop .inv) (omega arith)
+returns c = walking-done _ _ _ _ _ _ _ _ _ (c .before .loop .inv) (omega arith)
 
 pub walk-spec : {M : Type 1} → statement M
 walk-spec =

@@ -1,11 +1,13 @@
 -- `job::writer::write` meets its contract: each return stands at the first check that is not passed, and the bytes are put last.
-use mathlib.Core.Path.{_≡_, sym, _∙_, ap}
+use mathlib.Core.Path.{_≡_, refl, sym, _∙_, ap}
+use mathlib.Core.List.{[]}
 use Prim.Native.Nat.{_+_}
 use native.Mathlib.Omega.{arith}
 use lib.ListN.{length}
 use lib.Seq.{length-sets}
 use Rattle.geometry.specs.Strip.{Strip, strip, mostMarks}
 use Rattle.geometry.specs.Entry.{entry}
+use Rattle.geometry.specs.Refusal.{numberOf, firstFailure}
 use Rattle.geometry.proofs.Verdicts.{zero-accepted}
 use Rattle.geometry.proofs.Accepted.{entry-accepted}
 use Rattle.job.specs.Format.{headerLength}
@@ -26,9 +28,14 @@ start c = entered (c .before)
 abbrev marks : tie.Start → Strip
 marks s = strip (s .args .places .now) (s .args .lengths .now) (s .args .weights .now)
 
+-- the number that the checks on entry give; the writer makes none of its own among them
+on-entry : (c : tie.After-check-marks) → c .check-marks .result ≡ numberOf (entry mostMarks (marks (start c)))
+unfolding entry firstFailure
+on-entry c = c .check-marks .ensures [] refl
+
 -- the strip passes the checks on entry
 good : (c : tie.Else1) → Writable (marks (start (c .before)))
-good c = zero-accepted (entry mostMarks (marks (start (c .before)))) (sym (c .before .check-marks .ensures) ∙ omega arith)
+good c = zero-accepted (entry mostMarks (marks (start (c .before)))) (sym (on-entry (c .before)) ∙ omega arith)
 
 -- the job has room for the whole
 abbrev passed : tie.Else2 → tie.Else1
@@ -56,7 +63,7 @@ returns : tie.Need-returns
 returns c =
     let s = start (c .before) in
     refused-write (marks s) (s .args .job .now) (c .before .check-marks .result)
-    (entry-refused (length (s .args .job .now)) (marks s) (c .before .check-marks .result) (c .before .check-marks .ensures) (λ zero. omega arith))
+    (entry-refused (length (s .args .job .now)) (marks s) (c .before .check-marks .result) (on-entry (c .before)) (λ zero. omega arith))
 
 job-length-requires : tie.Need-job-length-requires
 job-length-requires c κs = good c

@@ -8,6 +8,7 @@ use Rattle.geometry.specs.Strip.{Strip, strip, mostShort}
 use Rattle.geometry.specs.Refusal.{accepted}
 use Rattle.geometry.proofs.Accepted.{entry-accepted, accept-pass}
 use Rattle.best.specs.Best.{BestLent, bestLent, bestChecks, workNamed}
+use Rattle.listing.specs.Text.{listingGap}
 use Rattle.listing.proofs.PassAnswers.{best-found}
 use borrow.Author.Needs.{needs}
 use Rattle.listing.proofs.passes.choose.Statement.{statement}
@@ -25,10 +26,10 @@ stripOf called = strip (start called .args .places .now) (start called .args .le
 abbrev lentTo : tie.After-best → BestLent
 lentTo called = bestLent (replicate mostShort 0) (start called .args .left-out .now) (replicate workNamed 0)
 
-passed : (called : tie.After-best) → bestChecks (stripOf called) (lentTo called) ≡ accepted
+passed : (called : tie.After-best) → bestChecks (stripOf called) listingGap (lentTo called) ≡ accepted
 passed called =
     let good = entry-accepted mostShort (stripOf called) (start called .pre .0) in
-    accept-pass mostShort (stripOf called) _ workNamed _ (start called .pre .0)
+    accept-pass mostShort (stripOf called) listingGap _ workNamed _ (start called .pre .0) (omega arith)
     (omega (arith, good .few, start called .pre .1, length-replicate {A = ℕ} mostShort 0))
     (rw (length-replicate {A = ℕ} workNamed 0) (le-refl workNamed))
 

@@ -8,6 +8,7 @@ use Rattle.geometry.specs.Strip.{Strip, strip, mostMarks}
 use Rattle.geometry.specs.Refusal.{accepted}
 use Rattle.geometry.proofs.Accepted.{entry-accepted, accept-pass}
 use Rattle.full.specs.Full.{FullLent, fullLent, fullChecks, workNamed}
+use Rattle.listing.specs.Text.{listingGap}
 use Rattle.listing.proofs.PassAnswers.{full-found}
 use borrow.Author.Needs.{needs}
 use Rattle.listing.proofs.passes.fits.Statement.{statement}
@@ -23,10 +24,10 @@ stripOf called = strip (start called .args .places .now) (start called .args .le
 abbrev lentTo : tie.After-full → FullLent
 lentTo called = fullLent (start called .args .positions .now) (replicate workNamed (pos 0))
 
-passed : (called : tie.After-full) → fullChecks (stripOf called) (lentTo called) ≡ accepted
+passed : (called : tie.After-full) → fullChecks (stripOf called) listingGap (lentTo called) ≡ accepted
 passed called =
     let good = entry-accepted mostMarks (stripOf called) (start called .pre .0) in
-    accept-pass mostMarks (stripOf called) _ workNamed _ (start called .pre .0) (omega (arith, good .few, start called .pre .1))
+    accept-pass mostMarks (stripOf called) listingGap _ workNamed _ (start called .pre .0) (omega arith) (omega (arith, good .few, start called .pre .1))
     (rw (length-replicate workNamed (pos 0)) (le-refl workNamed))
 
 returns : tie.Need-returns

@@ -1,5 +1,6 @@
 -- `listing::passes::slides` meets its contract: by what the slide pass says.
 use mathlib.Core.Path.{_≡_}
+use native.Mathlib.Omega.{arith}
 use native.Mathlib.Nat.{le-refl}
 use lib.IntN.{pos}
 use lib.ListN.{replicate, length-replicate}
@@ -8,6 +9,7 @@ use Rattle.geometry.specs.Strip.{Strip, strip, mostShort}
 use Rattle.geometry.specs.Refusal.{accepted}
 use Rattle.geometry.proofs.Accepted.{entry-accepted, accept-pass}
 use Rattle.slide.specs.Slide.{SlideLent, slideLent, slideChecks, workNamed}
+use Rattle.listing.specs.Text.{listingGap}
 use Rattle.listing.proofs.PassAnswers.{slide-told}
 use borrow.Author.Needs.{needs}
 use Rattle.listing.proofs.passes.slides.Statement.{statement}
@@ -23,9 +25,10 @@ stripOf called = strip (start called .args .places .now) (start called .args .le
 abbrev lent : SlideLent
 lent = slideLent (replicate mostShort 0) (replicate mostShort (pos 0)) (replicate workNamed 0)
 
-passed : (called : tie.After-slide) → slideChecks (stripOf called) lent ≡ accepted
+passed : (called : tie.After-slide) → slideChecks (stripOf called) listingGap lent ≡ accepted
 passed called =
-    accept-pass mostShort (stripOf called) _ workNamed _ (start called .pre) (entry-accepted mostShort (stripOf called) (start called .pre) .few)
+    let good = entry-accepted mostShort (stripOf called) (start called .pre) in
+    accept-pass mostShort (stripOf called) listingGap _ workNamed _ (start called .pre) (omega arith) (good .few)
     (rw (length-replicate {A = ℕ} workNamed 0) (le-refl workNamed))
 
 returns : tie.Need-returns

@@ -12,14 +12,14 @@ use Rattle.slide.proofs.table.fill.Statement.{statement}
 use Rattle.slide.proofs.table.fill.Tie as tie
 
 -- the rows from k on, at the mark before k
-rows-behind : {old new : List ℕ} {k : ℕ} {ms : List Mark} → TableFrom old new k ms → 0 < k → RowsFrom new (k - 1 + 1) ms
-rows-behind {k} from positive = let e : k - 1 + 1 ≡ k = omega arith in rw e (from .table)
+rows-behind : {g : ℕ} {old new : List ℕ} {k : ℕ} {ms : List Mark} → TableFrom g old new k ms → 0 < k → RowsFrom g new (k - 1 + 1) ms
+rows-behind {k = k} from positive = let e : k - 1 + 1 ≡ k = omega arith in rw e (from .table)
 
 abbrev Inv-loop : tie.InvT-loop
-Inv-loop places lengths work₀ k₀ work k = TableFrom work₀ work k (plainMarks places lengths) × (k ≤ length places)
+Inv-loop places lengths gap work₀ k₀ work k = TableFrom gap work₀ work k (plainMarks places lengths) × (k ≤ length places)
 
 abbrev μ-loop : tie.MeasureT-loop
-μ-loop places lengths work₀ k₀ work k = k
+μ-loop places lengths gap work₀ k₀ work k = k
 
 -- a turn, and where the loop began
 abbrev turn : tie.After-fill-mark-arg Inv-loop μ-loop → tie.At-loop Inv-loop μ-loop
@@ -29,7 +29,7 @@ abbrev start : tie.At-loop Inv-loop μ-loop → tie.Start Inv-loop μ-loop
 start c = c .before .before .before
 
 loop-holds : tie.Need-loop-holds Inv-loop μ-loop
-loop-holds c = (table-none _ _ (c .before .before .pre .0) _ _ (omega arith), omega arith)
+loop-holds c = (table-none _ _ _ (c .before .before .pre .0) _ _ (omega arith), omega arith)
 
 sub-k : tie.Need-sub-k Inv-loop μ-loop
 sub-k c = omega arith
@@ -50,7 +50,7 @@ loop-less c = omega arith
 loop-again : tie.Need-loop-again Inv-loop μ-loop
 loop-again c =
     let filled : tie.After-fill-mark Inv-loop μ-loop = c .before .before in
-    (table-more _ _ _ _ _ _ (turn (filled .before) .loop .inv .0) (filled .fill-mark .ensures), omega arith)
+    (table-more _ _ _ _ _ _ _ (turn (filled .before) .loop .inv .0) (filled .fill-mark .ensures), omega arith)
 
 same-length : tie.Need-same-length Inv-loop μ-loop
 same-length c = c .before .loop .inv .0 .same-length

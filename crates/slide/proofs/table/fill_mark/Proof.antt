@@ -52,7 +52,7 @@ fill-last-requires c κs =
     let last : tie.Then1 = c .before .before in
     let s : tie.Start = start (last .before) in
     let checked = s .pre .checked in
-    omega (arith, checked .few, label-at _ _ checked (s .args .k) (s .pre .within))
+    omega (arith, checked .few, label-at _ _ _ checked (s .args .k) (s .pre .within))
 
 same-length : tie.Need-same-length
 same-length c = search needs
@@ -62,7 +62,7 @@ returns c =
     let filled : tie.After-fill-last = c .before .before in
     let last : tie.Then1 = filled .before .before .before in
     let s : tie.Start = start (last .before) in
-    table-last _ _ (s .pre .checked) _ _ (s .args .k) (s .pre .within) (omega arith) (filled .fill-last .ensures)
+    table-last _ _ _ (s .pre .checked) _ _ (s .args .k) (s .pre .within) (omega arith) (filled .fill-last .ensures)
 
 mul-dot-of : tie.Need-mul-dot-of
 mul-dot-of c = search needs
@@ -98,9 +98,9 @@ fill-row-requires : tie.Need-fill-row-requires
 fill-row-requires c κs =
     let s : tie.Start = start-of (first (c .before)) in
     let checked = s .pre .checked in
-    let here = label-at _ _ checked (s .args .k) (s .pre .within) in
-    let next = label-at _ _ checked (s .args .k + 1) (omega arith) in
-    (omega (arith, checked .few), rw (first-dot (first (c .before))) here, rw (second-dot (c .before)) next)
+    let here = label-at _ _ _ checked (s .args .k) (s .pre .within) in
+    let next = label-at _ _ _ checked (s .args .k + 1) (omega arith) in
+    (omega (arith, checked .few), rw (first-dot (first (c .before))) here, checked .gap-narrow, rw (second-dot (c .before)) next)
 
 same-length-2 : tie.Need-same-length-2
 same-length-2 c = search needs
@@ -110,8 +110,8 @@ returns-2 c =
     let filled : tie.After-fill-row = c .before .before in
     let second : tie.After-dot-of2 = filled .before .before in
     let s : tie.Start = start-of (first second) in
-    table-before _ _ (s .pre .checked) _ _ (s .args .k) (s .pre .within) _ _ (first-dot (first second)) (second-dot second) (omega arith) (s .pre .behind)
-    (filled .fill-row .ensures)
+    table-before _ _ _ (s .pre .checked) _ _ (s .args .k) (s .pre .within) _ _ (first-dot (first second)) (second-dot second) (omega arith)
+    (s .pre .behind) (filled .fill-row .ensures)
 
 pub fill-mark-spec : {M : Type 1} → statement M
 fill-mark-spec =

@@ -8,11 +8,11 @@ use Rattle.slide.proofs.table.fill_row.Statement.{statement}
 use Rattle.slide.proofs.table.fill_row.Tie as tie
 
 abbrev Inv-loop : tie.InvT-loop
-Inv-loop work₀ row place length next-place next-length next last slides₀ d₀ work slides d =
-    Scanned work₀ work row place (plainMark next-place next-length) d slides × (d ≤ length + 1)
+Inv-loop work₀ row place length gap next-place next-length least-reach next last slides₀ d₀ work slides d =
+    Scanned gap work₀ work row (plainMark place length) (plainMark next-place next-length) d slides × (d ≤ length + 1)
 
 abbrev μ-loop : tie.MeasureT-loop
-μ-loop work₀ row place length next-place next-length next last slides₀ d₀ work slides d = length + 1 - d
+μ-loop work₀ row place length gap next-place next-length least-reach next last slides₀ d₀ work slides d = length + 1 - d
 
 -- in one turn: where the slide is found and the cell on its own side is read
 abbrev found : tie.After-own-side Inv-loop μ-loop → tie.After-furthest-slide Inv-loop μ-loop
@@ -21,6 +21,9 @@ found c = c .before .before
 abbrev turn : tie.After-own-side Inv-loop μ-loop → tie.At-loop Inv-loop μ-loop
 turn c = found c .before .before .before
 
+add-least-reach : tie.Need-add-least-reach Inv-loop μ-loop
+add-least-reach c = omega arith
+
 add-next : tie.Need-add-next Inv-loop μ-loop
 add-next c = omega arith
 
@@ -28,7 +31,7 @@ add-slides : tie.Need-add-slides Inv-loop μ-loop
 add-slides c = omega arith
 
 loop-holds : tie.Need-loop-holds Inv-loop μ-loop
-loop-holds c = (scanned-none _ _ _ _ _ _ (omega arith) (omega arith), omega arith)
+loop-holds c = (scanned-none _ _ _ _ _ _ _ (omega arith) (omega arith), omega arith)
 
 cast-reach : tie.Need-cast-reach Inv-loop μ-loop
 cast-reach c = omega arith
@@ -44,8 +47,8 @@ own-side-requires c κs = omega arith
 
 other-side-requires : tie.Need-other-side-requires Inv-loop μ-loop
 other-side-requires c κs = (
-  turn c .before .before .pre .2,
-  found-within _ _ _ _ _ _ _ _ (turn c .loop .inv .0) (found c .furthest-slide .ensures),
+  turn c .before .before .pre .3,
+  found-within _ _ _ _ _ _ _ _ _ _ (turn c .loop .inv .0) (found c .furthest-slide .ensures),
 )
 
 larger-requires : tie.Need-larger-requires Inv-loop μ-loop
@@ -66,8 +69,8 @@ add-d c = omega arith
 loop-again : tie.Need-loop-again Inv-loop μ-loop
 loop-again c =
     let read : tie.After-own-side Inv-loop μ-loop = c .before .before in (
-      scanned-more _ _ _ _ _ (turn read .loop .d) _ _ (turn read .loop .inv .0) (found read .furthest-slide .ensures) _ _ _ _
-          (read .own-side .ensures) (c .before .other-side .ensures) (c .larger .ensures) (omega arith) (omega arith) (omega arith),
+      scanned-more _ _ _ _ _ _ (turn read .loop .d) _ _ _ (turn read .loop .inv .0) (found read .furthest-slide .ensures) _ _ _ _
+          (omega arith) (read .own-side .ensures) (c .before .other-side .ensures) (c .larger .ensures) (omega arith) (omega arith) (omega arith),
       omega arith,
     )
 
@@ -86,6 +89,7 @@ fill-row-spec =
     (tie.spec
     Inv-loop
     μ-loop
+    add-least-reach
     add-next
     add-slides
     loop-holds

@@ -1,14 +1,13 @@
 -- `slide::walk::place_label` meets its contract: by the side that the test gives.
 use mathlib.Core.Path.{_≡_}
 use mathlib.Core.Bool.{Bool, true, false}
-use Prim.Native.Nat.{ℕ, _+_, _≤_, _<_}
+use Prim.Native.Nat.{ℕ, _≤_}
 use native.Mathlib.Omega.{arith}
 use borrow.Author.Needs.{needs}
 use Rattle.geometry.specs.Mark.{Mark}
 use Rattle.geometry.specs.Position.{above, below}
 use Rattle.geometry.specs.Sliding.{leftmostEdge}
 use Rattle.slide.specs.inner.Plain.{plainMark}
-use Rattle.slide.specs.inner.Room.{GoodLabel, noBound}
 use Rattle.slide.specs.inner.Table.{rowFrom}
 use Rattle.slide.specs.inner.Walk.{takesAbove}
 use Rattle.slide.proofs.FilledRows.{own-within}
@@ -42,9 +41,12 @@ above-within c =
     let s : tie.Start = start (c .before) in
     own-within (mark s) (s .args .above) (cells s) (s .args .below) (omega (arith, c .before .own-side .ensures))
 
--- an edge that is not beyond its mark leaves room for the label
-ends-inside : (m : Mark) (t edge : ℕ) → GoodLabel m → t ≤ m .place → edge ≡ leftmostEdge m t → edge + m .labelLength < noBound
-ends-inside m t edge good within e = omega arith
+-- so its edge is not beyond its mark either, and there is room for the label and the gap
+edge-within : (m : Mark) (t edge : ℕ) → t ≤ m .place → edge ≡ leftmostEdge m t → edge ≤ m .place
+edge-within m t edge within e = omega arith
+
+add-length-with-gap : tie.Need-add-length-with-gap
+add-length-with-gap c = omega arith
 
 own-side-requires : tie.Need-own-side-requires
 own-side-requires c κs = search needs
@@ -52,24 +54,25 @@ own-side-requires c κs = search needs
 leftmost-requires : tie.Need-leftmost-requires
 leftmost-requires c κs = search needs
 
-add-t12 : tie.Need-add-t12
-add-t12 c =
+add-reach : tie.Need-add-reach
+add-reach c =
     let s : tie.Start = start (c .before .before) in
-    omega (arith, ends-inside (mark s) (s .args .above) _ (s .pre .label) (above-within (c .before)) (c .leftmost .ensures))
+    omega (arith, edge-within (mark s) (s .args .above) _ (above-within (c .before)) (c .leftmost .ensures), s .pre .label, s .pre .gap-narrow)
 
 returns : tie.Need-returns
-returns c = rw (taken (c .before)) (label-on above (mark (start (c .before .before))) _ _ _ (c .leftmost .ensures))
+returns c = rw (taken (c .before)) (label-on _ above (mark (start (c .before .before))) _ _ _ _ (c .leftmost .ensures) (omega arith))
 
 leftmost-requires-2 : tie.Need-leftmost-requires-2
 leftmost-requires-2 c κs = search needs
 
-add-t13 : tie.Need-add-t13
-add-t13 c =
+add-reach-2 : tie.Need-add-reach-2
+add-reach-2 c =
     let s : tie.Start = start (c .before .before) in
-    omega (arith, ends-inside (mark s) (s .args .below) _ (s .pre .label) (s .pre .one-free (barred (c .before))) (c .leftmost2 .ensures))
+    let free = s .pre .one-free (barred (c .before)) in
+    omega (arith, edge-within (mark s) (s .args .below) _ free (c .leftmost2 .ensures), s .pre .label, s .pre .gap-narrow)
 
 returns-2 : tie.Need-returns-2
-returns-2 c = rw (barred (c .before)) (label-on below (mark (start (c .before .before))) _ _ _ (c .leftmost2 .ensures))
+returns-2 c = rw (barred (c .before)) (label-on _ below (mark (start (c .before .before))) _ _ _ _ (c .leftmost2 .ensures) (omega arith))
 
 pub place-label-spec : {M : Type 1} → statement M
-place-label-spec = tie.close (tie.spec own-side-requires leftmost-requires add-t12 returns leftmost-requires-2 add-t13 returns-2)
+place-label-spec = tie.close (tie.spec add-length-with-gap own-side-requires leftmost-requires add-reach returns leftmost-requires-2 add-reach-2 returns-2)

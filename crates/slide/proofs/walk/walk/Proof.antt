@@ -16,11 +16,11 @@ use Rattle.slide.proofs.walk.walk.Statement.{statement}
 use Rattle.slide.proofs.walk.walk.Tie as tie
 
 abbrev Inv-loop : tie.InvT-loop
-Inv-loop places lengths work sides₀ edges₀ above₀ below₀ i₀ sides edges above below i =
-    WalkedTo places lengths sides₀ sides edges₀ edges above below i × (i ≤ length places)
+Inv-loop places lengths gap work sides₀ edges₀ above₀ below₀ i₀ sides edges above below i =
+    WalkedTo places lengths gap sides₀ sides edges₀ edges above below i × (i ≤ length places)
 
 abbrev μ-loop : tie.MeasureT-loop
-μ-loop places lengths work sides₀ edges₀ above₀ below₀ i₀ sides edges above below i = length places - i
+μ-loop places lengths gap work sides₀ edges₀ above₀ below₀ i₀ sides edges above below i = length places - i
 
 -- a turn: where the place is read and the label is made; and where the loop began
 abbrev turn : tie.After-dot-of Inv-loop μ-loop → tie.At-loop Inv-loop μ-loop
@@ -46,7 +46,7 @@ edge-written c =
     ap (λ z. toZ w16 (ofZ w16 z)) (c .place-of .ensures) ∙ fetched (placeOf edge) (place-mag edge (omega arith))
 
 loop-holds : tie.Need-loop-holds Inv-loop μ-loop
-loop-holds c = let s : tie.Start Inv-loop μ-loop = c .before .before .before in (walked-none _ _ _ _ _ (omega arith) (s .pre .fits), omega arith)
+loop-holds c = let s : tie.Start Inv-loop μ-loop = c .before .before .before in (walked-none _ _ _ _ _ _ (omega arith) (s .pre .fits), omega arith)
 
 mul-place-label : tie.Need-mul-place-label Inv-loop μ-loop
 mul-place-label c = omega (arith, start (c .before) .pre .checked .few)
@@ -68,7 +68,8 @@ place-label-requires c κs =
     let at = turn (c .before) in
     let s = start at in
     rw (dot-read (c .before))
-    (step-ready _ _ (s .pre .checked) (s .args .work .now) _ _ _ _ _ _ (at .loop .i) (s .pre .table) (at .loop .inv .0) (omega arith) (s .pre .work-long))
+    (step-ready _ _ _ (s .pre .checked) (s .args .work .now) _ _ _ _ _ _ (at .loop .i) (s .pre .table) (at .loop .inv .0) (omega arith)
+    (s .pre .work-long))
 
 slice-write-sides : tie.Need-slice-write-sides Inv-loop μ-loop
 slice-write-sides c = let at = turn (read c) in omega (arith, start at .pre .sides-long, at .loop .inv .0 .sides-so-far .same-length)
@@ -76,8 +77,8 @@ slice-write-sides c = let at = turn (read c) in omega (arith, start at .pre .sid
 place-of-requires : tie.Need-place-of-requires Inv-loop μ-loop
 place-of-requires c κs = search needs
 
-mul-t10 : tie.Need-mul-t10 Inv-loop μ-loop
-mul-t10 c = omega arith
+mul-t11 : tie.Need-mul-t11 Inv-loop μ-loop
+mul-t11 c = omega arith
 
 slice-set-from-edges : tie.Need-slice-set-from-edges Inv-loop μ-loop
 slice-set-from-edges c = let at = turn (read (c .before)) in omega (arith, start at .pre .edges-long, at .loop .inv .0 .edges-so-far .same-length)
@@ -95,7 +96,7 @@ loop-again c =
     let walked = at .loop .inv .0 in
     let label = rw (dot-read (read (c .before))) at (c .before .place-label .ensures) in (
       rw (edge-written c)
-          (walked-more _ _ (s .pre .checked) (s .args .work .now) _ _ _ _ _ _ (at .loop .i) (s .pre .table) walked (omega arith) _ _ _ _ _ label
+          (walked-more _ _ _ (s .pre .checked) (s .args .work .now) _ _ _ _ _ _ (at .loop .i) (s .pre .table) walked (omega arith) _ _ _ _ _ label
           (omega arith) (omega (arith, s .pre .sides-long, walked .sides-so-far .same-length))
           (omega (arith, s .pre .edges-long, walked .edges-so-far .same-length))),
       omega arith,
@@ -109,7 +110,7 @@ same-length-2 c = c .before .loop .inv .0 .edges-so-far .same-length
 
 returns : tie.Need-returns Inv-loop μ-loop
 returns c =
-    let all = walked-all _ _ (start (c .before) .pre .checked) _ _ _ _ _ _ _ (c .before .loop .inv .0) (omega arith) in
+    let all = walked-all _ _ _ (start (c .before) .pre .checked) _ _ _ _ _ _ _ (c .before .loop .inv .0) (omega arith) in
     record { sides = all .0; edges = all .1 }
 
 pub walk-spec : {M : Type 1} → statement M
@@ -127,7 +128,7 @@ walk-spec =
     place-label-requires
     slice-write-sides
     place-of-requires
-    mul-t10
+    mul-t11
     slice-set-from-edges
     add-i
     loop-less
