@@ -59,7 +59,7 @@ fn both_sides(left: i16, right: i16) -> Kept
 }
 
 // The kept part layouts of a mark from those of the next one. A label's side reaches to its right end with the gap behind it: `near`
-// for the label to the left, which ends at its mark, `far` for the one to the right.
+// for the label to the left, which ends at its mark, `far` for the one to the right, which ends its length further on.
 pub fn kept_before(
     place: i16,
     length: u8,
@@ -73,8 +73,7 @@ pub fn kept_before(
 {
     let left = left_end(next_place, next_length);
     let near = further(place, gap);
-    let right = further(place, length);
-    let far = further(right, gap);
+    let far = further(near, length);
     let reaches = next.reaches;
     both_sides(
         greatest(near, next_place, left, reaches[0], reaches[2]),

@@ -64,8 +64,7 @@ fn step(
 {
     let left = left_end(place, length);
     let near = further(place, gap);
-    let right = further(place, length);
-    let far = further(right, gap);
+    let far = further(near, length);
     let two = leaves_rest(above, left, below, first);
     let three = leaves_rest(below, left, above, second);
     let one = leaves_rest(above, place, below, third);

@@ -17,8 +17,8 @@ pub fn left_end(place: i16, length: u8) -> i16
     place - length as i16
 }
 
-// So many dots further right: from its mark's place the right end of a label that lies to the right, and from a right end, by the gap,
-// where the next label of that side may begin.
+// So many dots further right: by a label's length from one of its ends to the other, by the gap from a right end to where the next label
+// of that side may begin.
 pub fn further(from: i16, dots: u8) -> i16
     requires { ⌜ dot from + dots < 65536 ⌝ }
     ensures { λ r. ⌜ dot r ≡ dot from + dots ⌝ }

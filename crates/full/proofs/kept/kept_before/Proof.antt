@@ -14,21 +14,18 @@ use Rattle.full.proofs.kept.kept_before.Tie as tie
 
 -- the ends of the labels are known, and the next mark's row is at hand
 abbrev ended : tie.After-reaches → tie.After-left-end
-ended r = let far = r .before in far .before .before .before
+ended r = let far = r .before in far .before .before
 
 -- a place in range leaves room for a label and the gap
 in-dots : (s : tie.Start) → InDots (dot (s .args .place))
 in-dots s = range-dots (s .args .place) (s .pre .0)
 
--- the place, the near reach and the right end as they were read
+-- the place and the near reach as they were read
 place-read : (s : tie.Start) → dot (toZ w16 (ofZ w16 (s .args .place))) ≡ dot (s .args .place)
 place-read s = ap dot (back (s .fits .place))
 
 near-read : (c : tie.After-further) → dot (toZ w16 (ofZ w16 (c .further .result))) ≡ dot (c .further .result)
 near-read c = ap dot (fetched (c .further .result) (c .further .ok))
-
-right-read : (c : tie.After-further2) → dot (toZ w16 (ofZ w16 (c .further2 .result))) ≡ dot (c .further2 .result)
-right-read c = ap dot (fetched (c .further2 .result) (c .further2 .ok))
 
 -- the next mark's label to the left begins at its place or before
 in-order : (e : tie.After-left-end) → dot (toZ w16 (ofZ w16 (e .left-end .result))) ≤ dot (toZ w16 (ofZ w16 (e .before .args .next-place)))
@@ -43,12 +40,6 @@ further-requires c κs = omega (arith, in-dots (c .before), place-read (c .befor
 further-requires-2 : tie.Need-further-requires-2
 further-requires-2 c κs =
     let start = c .before .before in omega (arith, in-dots start, place-read start, near-read c, c .further .ensures)
-
-further-requires-3 : tie.Need-further-requires-3
-further-requires-3 c κs =
-    let near = c .before in
-    let start = near .before .before in
-    omega (arith, in-dots start, place-read start, near-read near, right-read c, near .further .ensures, c .further2 .ensures)
 
 array-copy-out-greatest : tie.Need-array-copy-out-greatest
 array-copy-out-greatest c = search needs
@@ -77,13 +68,12 @@ returns c =
     let left-kept = right-kept .before .before .before in
     let row = left-kept .before .before .before in
     let far = row .before in
-    let right = far .before in
-    let near = right .before in
+    let near = far .before in
     let left = near .before in
     let start = left .before in
     let near-is : dot (near .further .result) ≡ dot (start .args .place) + start .args .gap = omega (arith, place-read start, near .further .ensures) in
-    let far-is : dot (far .further3 .result) ≡ dot (start .args .place) + start .args .length + start .args .gap =
-    omega (arith, place-read start, near-read near, right-read right, near-is, right .further2 .ensures, far .further3 .ensures) in
+    let far-is : dot (far .further2 .result) ≡ dot (start .args .place) + start .args .length + start .args .gap =
+    omega (arith, near-read near, near-is, far .further2 .ensures) in
     let keptLeft = getD (start .args .next .reaches) 0 (pos 0) in
     let keptRight = getD (start .args .next .reaches) 2 (pos 0) in
     rw (
@@ -95,7 +85,7 @@ returns c =
       fetched keptRight (left-kept .before .greatest-arg2 .given),
       fetched (left .left-end .result) (left .left-end .ok),
       fetched (near .further .result) (near .further .ok),
-      fetched (far .further3 .result) (far .further3 .ok),
+      fetched (far .further2 .result) (far .further2 .ok),
       left .left-end .ensures,
       near-is,
       far-is,
@@ -110,7 +100,6 @@ kept-before-spec =
     left-end-requires
     further-requires
     further-requires-2
-    further-requires-3
     array-copy-out-greatest
     array-copy-out-greatest-2
     greatest-requires

@@ -40,11 +40,11 @@ leaves own left other bound = leb (dot own) left && leb (dot other) (dot bound)
 abbrev Tested : Type 0
 Tested = tie.After-leaves-rest3
 
-abbrev reached : Tested → tie.After-further3
+abbrev reached : Tested → tie.After-further2
 reached t = t .before .before .before
 
-abbrev neared : tie.After-further3 → tie.After-further
-neared r = r .before .before
+abbrev neared : tie.After-further2 → tie.After-further
+neared r = r .before
 
 abbrev begun : tie.After-further → tie.Start
 begun n = n .before .before
@@ -56,15 +56,12 @@ start t = begun (neared (reached t))
 in-dots : (s : tie.Start) → InDots (dot (s .args .place))
 in-dots s = range-dots (s .args .place) (s .pre .0)
 
--- the place, the near reach and the right end as they were read
+-- the place and the near reach as they were read
 place-read : (s : tie.Start) → dot (toZ w16 (ofZ w16 (s .args .place))) ≡ dot (s .args .place)
 place-read s = ap dot (back (s .fits .place))
 
 near-read : (c : tie.After-further) → dot (toZ w16 (ofZ w16 (c .further .result))) ≡ dot (c .further .result)
 near-read c = ap dot (fetched (c .further .result) (c .further .ok))
-
-right-read : (c : tie.After-further2) → dot (toZ w16 (ofZ w16 (c .further2 .result))) ≡ dot (c .further2 .result)
-right-read c = ap dot (fetched (c .further2 .result) (c .further2 .ok))
 
 module _ (t : Tested) where
   abbrev place : ℕ
@@ -81,11 +78,8 @@ module _ (t : Tested) where
   near-is : dot (neared (reached t) .further .result) ≡ place + start t .args .gap
   near-is = omega (arith, place-read (start t), neared (reached t) .further .ensures)
 
-  far-is : dot (reached t .further3 .result) ≡ place + length + start t .args .gap
-  far-is =
-      let far = reached t in
-      let right = far .before in
-      omega (arith, place-read (start t), near-read (neared far), right-read right, near-is, right .further2 .ensures, far .further3 .ensures)
+  far-is : dot (reached t .further2 .result) ≡ place + length + start t .args .gap
+  far-is = omega (arith, near-read (neared (reached t)), near-is, reached t .further2 .ensures)
 
   two-is : t .before .before .leaves-rest .result ≡ leaves (start t .args .above) (place - length) (start t .args .below) (start t .args .first)
   two-is =
@@ -107,12 +101,6 @@ further-requires c κs = omega (arith, in-dots (c .before), place-read (c .befor
 
 further-requires-2 : tie.Need-further-requires-2
 further-requires-2 c κs = omega (arith, in-dots (begun c), place-read (begun c), near-read c, c .further .ensures)
-
-further-requires-3 : tie.Need-further-requires-3
-further-requires-3 c κs =
-    let near = c .before in
-    let s = begun near in
-    omega (arith, in-dots s, place-read s, near-read near, right-read c, near .further .ensures, c .further2 .ensures)
 
 leaves-rest-requires : tie.Need-leaves-rest-requires
 leaves-rest-requires c κs = search needs
@@ -155,7 +143,7 @@ returns c =
     let t = above-right .before in
     let held = start t .fits in
     let near = neared (reached t) .further in
-    let far = reached t .further3 in
+    let far = reached t .further2 in
     rw (
       sym (two-is t),
       sym (three-is t),
@@ -198,7 +186,6 @@ step-spec =
     left-end-requires
     further-requires
     further-requires-2
-    further-requires-3
     leaves-rest-requires
     leaves-rest-requires-2
     leaves-rest-requires-3
