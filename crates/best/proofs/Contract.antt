@@ -8,7 +8,7 @@ use Prim.Native.Nat.{ℕ, _≤_, min}
 use native.Mathlib.Omega.{arith}
 use lib.ListN.{length, take, length-map}
 use Rattle.geometry.specs.Strip.{Strip, marksOf, mostShort}
-use Rattle.geometry.specs.Pass.{mostGap, passVerdict, written}
+use Rattle.geometry.specs.Pass.{passVerdict, written}
 use Rattle.geometry.specs.Position.{code}
 use Rattle.geometry.specs.Refusal.{accepted, numberOf}
 use Rattle.geometry.proofs.Accepted.{PassAccepted, pass-accepted, accepted-rising, length-marks}
@@ -17,7 +17,7 @@ use Rattle.geometry.proofs.Lent.{used-is}
 use Rattle.best.specs.Best.{workNamed, BestLent, bestChecks, BestContract}
 use Rattle.best.specs.LeftOut.{byFallingWeight, leftOut}
 use Rattle.best.specs.inner.Worth.{wholeChoice}
-use Rattle.best.specs.inner.Checked.{Checked, Labelled}
+use Rattle.best.specs.inner.Checked.{CheckedAt, Labelled}
 use Rattle.best.specs.inner.Insertion.{zerosByWeight}
 use Rattle.best.proofs.WorthIsBest.{best-free, best-earns, best-length, worth-best}
 use Rattle.best.proofs.Zeros.{zeros-are-left-out}
@@ -52,23 +52,23 @@ module _ (s : Strip) (g : ℕ) (entry : BestLent) (ok : bestChecks s g entry ≡
   passed = pass-accepted mostShort s g shorter workNamed (length (entry .work)) ok
 
   -- in the form in which the pass asks for it
-  pub accepted-checked : Checked s (entry .work)
+  pub accepted-checked : CheckedAt g s (entry .work)
   accepted-checked =
       let a = passed .entered in
       record {
-        same-lengths = a .same-lengths;
-        same-weights = a .same-weights;
-        few = a .few;
-        places-good = a .places-good;
-        weights-good = a .weights-good;
-        roomy = passed .work-long;
+        checked = record {
+          same-lengths = a .same-lengths;
+          same-weights = a .same-weights;
+          few = a .few;
+          places-good = a .places-good;
+          weights-good = a .weights-good;
+          roomy = passed .work-long;
+        };
+        gap-narrow = passed .gap-narrow;
       }
 
   pub lists-enough : (length (s .places) ≤ length (entry .positions)) × (length (s .places) ≤ length (entry .left-out))
   lists-enough = omega (arith, passed .list-long)
-
-  pub gap-narrow : g ≤ mostGap
-  gap-narrow = passed .gap-narrow
 
   -- the choice of the walk as position numbers, one for each mark
   abbrev codes : List ℕ

@@ -17,10 +17,9 @@ use name::NAMES;
 ghost use Prim.Native.Nat.{_≤_};
 ghost use lib.ListN.{length};
 ghost use Rattle.geometry.specs.Strip.{strip};
-ghost use Rattle.geometry.specs.Pass.{mostGap};
 ghost use Rattle.best.specs.Best.{BestContract, bestLent};
 ghost use Rattle.best.specs.inner.Names.{Reaches};
-ghost use Rattle.best.specs.inner.Checked.{Checked, Labelled};
+ghost use Rattle.best.specs.inner.Checked.{CheckedAt, Labelled};
 
 // How many numbers of the work area document 01 names.
 pub const WORK_NAMED: usize = 15000;
@@ -36,7 +35,7 @@ fn fill_and_walk(
     positions: &mut [u8],
     work: &mut [u32],
 ) -> u32
-    requires { ⌜ Checked (strip (now places) (now lengths) (now weights)) (now work) ⌝ ∗ ⌜ gap ≤ mostGap ⌝
+    requires { ⌜ CheckedAt gap (strip (now places) (now lengths) (now weights)) (now work) ⌝
         ∗ ⌜ Reaches gap (now places) (now lengths) (now reaches) ⌝
         ∗ ⌜ length (now places) ≤ length (now positions) ⌝ }
     ensures { λ r. ⌜ Labelled gap
@@ -59,7 +58,7 @@ fn label_marks(
     positions: &mut [u8],
     work: &mut [u32],
 ) -> u32
-    requires { ⌜ Checked (strip (now places) (now lengths) (now weights)) (now work) ⌝ ∗ ⌜ gap ≤ mostGap ⌝
+    requires { ⌜ CheckedAt gap (strip (now places) (now lengths) (now weights)) (now work) ⌝
         ∗ ⌜ length (now places) ≤ length (now positions) ⌝ }
     ensures { λ r. ⌜ Labelled gap
         (strip (now (places .entry)) (now (lengths .entry)) (now (weights .entry))) (now (positions .entry))

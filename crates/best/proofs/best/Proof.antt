@@ -4,7 +4,7 @@ use native.Mathlib.Omega.{arith}
 use Rattle.geometry.specs.Strip.{Strip, strip}
 use Rattle.geometry.specs.Refusal.{accepted, numberOf}
 use Rattle.best.specs.Best.{BestLent, bestLent, bestChecks}
-use Rattle.best.proofs.Contract.{number-found, answer-refused, zero-passes, accepted-checked, gap-narrow, lists-enough, answer-accepted}
+use Rattle.best.proofs.Contract.{number-found, answer-refused, zero-passes, accepted-checked, lists-enough, answer-accepted}
 use borrow.Author.Needs.{needs}
 use Rattle.best.proofs.best.Statement.{statement}
 use Rattle.best.proofs.best.Tie as tie
@@ -52,8 +52,7 @@ label-marks-requires : tie.Need-label-marks-requires
 label-marks-requires c κs =
     let point = passed c in
     let a = start (point .before) in
-    let enough = lists-enough (marks a) _ (entry a) (passes point) in
-    (accepted-checked (marks a) _ (entry a) (passes point), (gap-narrow (marks a) _ (entry a) (passes point), enough .0))
+    (accepted-checked (marks a) _ (entry a) (passes point), lists-enough (marks a) _ (entry a) (passes point) .0)
 
 list-requires : tie.Need-list-requires
 list-requires c κs =
@@ -61,7 +60,7 @@ list-requires c κs =
     let a = start (point .before) in
     let same = labelled c .label-marks .kept .1 .1 .1 .1 .0 in
     let enough = lists-enough (marks a) _ (entry a) (passes point) in
-    let checked = accepted-checked (marks a) _ (entry a) (passes point) in
+    let checked = accepted-checked (marks a) _ (entry a) (passes point) .checked in
     let one-each = checked .same-weights in
     (checked .weights-good, (omega (arith, checked .few, one-each), (omega (arith, enough .0, one-each, same), omega (arith, enough .1, one-each))))
 

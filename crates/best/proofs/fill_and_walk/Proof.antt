@@ -34,8 +34,8 @@ place-labels-requires : tie.Need-place-labels-requires
 place-labels-requires c κs =
     let fill = filled c .fill in
     let a = start (filled c) in
-    let checked = checked-again (a .args .work .now) (table (filled c)) (a .pre .0) (fill .kept .1 .1 .1 .1 .0) in
-    (checked, (a .pre .1 .0, (fill .ensures .0 _ (a .pre .1 .1 .0), a .pre .1 .1 .1)))
+    let checked = checked-again (a .args .work .now) (table (filled c)) (a .pre .0 .checked) (fill .kept .1 .1 .1 .1 .0) in
+    (record { checked = checked; gap-narrow = a .pre .0 .gap-narrow }, (fill .ensures .0 _ (a .pre .1 .0), a .pre .1 .1))
 
 slice-read-sum : tie.Need-slice-read-sum
 slice-read-sum c = search needs
@@ -58,7 +58,7 @@ returns c =
     let again = cleared-again workNamed 0 (zeros .clear .last .0) (table (filled (walk .before))) (a .args .work .now) in
     record {
       positions-written = walk .place-labels .ensures;
-      sum-is = first-cell _ (marks a) _ (fill .ensures .0 _ (a .pre .1 .1 .0));
+      sum-is = first-cell _ (marks a) _ (fill .ensures .0 _ (a .pre .1 .0));
       work-cleared = again (zeros .clear .ensures) (fill .ensures .1);
     }
 

@@ -8,7 +8,7 @@ use Rattle.geometry.specs.Lists.{every}
 use Rattle.geometry.specs.Mark.{placeInRange, weightInRange}
 use Rattle.geometry.specs.Strip.{Strip, mostShort}
 use Rattle.geometry.specs.Position.{code}
-use Rattle.geometry.specs.Pass.{written, cleared}
+use Rattle.geometry.specs.Pass.{mostGap, written, cleared}
 use Rattle.best.specs.Best.{workNamed}
 use Rattle.best.specs.inner.Worth.{wholeWorth, wholeChoice}
 use Rattle.best.specs.inner.Names.{Reaches}
@@ -22,7 +22,12 @@ pub record Checked (s : Strip) (work : List ℕ) : Type 0 where
   pub weights-good : every weightInRange (s .weights) ≡ true
   pub roomy : workNamed ≤ length work
 
--- the same with the reaches of the strip's labels, at some gap
+-- the same with a gap that the passes take
+pub record CheckedAt (g : ℕ) (s : Strip) (work : List ℕ) : Type 0 where
+  pub checked : Checked s work
+  pub gap-narrow : g ≤ mostGap
+
+-- and with the reaches of the strip's labels, at some gap
 pub record Ready (s : Strip) (reaches work : List ℕ) : Type 0 where
   pub checked : Checked s work
   pub gap : ℕ
