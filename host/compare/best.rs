@@ -87,7 +87,10 @@ fn choice(call: &Call, positions: &Lent<u8>, left_out: &Lent<u16>, sum: u32, cou
     ensure(left_out.written(&out), "the left-out list, heaviest first, or what stands behind it")
 }
 
-pub fn compare(random: &mut Random, call: &Call, best_sum: fn(&Strip, i32) -> u32) -> Result<u8, String> {
+// A search for the greatest sum at a gap.
+pub type Search = fn(&Strip, i32) -> u32;
+
+pub fn compare(random: &mut Random, call: &Call, best_sum: Search) -> Result<u8, String> {
     let mut marks = LentMarks::of(random, &call.strip);
     let mut positions: Lent<u8> = Lent::of_length(random, call.answers[0]);
     let mut left_out: Lent<u16> = Lent::of_length(random, call.answers[1]);

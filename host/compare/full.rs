@@ -75,7 +75,10 @@ pub fn by_dead_ends(strip: &Strip, gap: i32) -> Option<Vec<u8>> {
     Some(positions)
 }
 
-pub fn compare(random: &mut Random, call: &Call, first: fn(&Strip, i32) -> Option<Vec<u8>>) -> Result<u8, String> {
+// A search for the first placing at a gap.
+pub type Search = fn(&Strip, i32) -> Option<Vec<u8>>;
+
+pub fn compare(random: &mut Random, call: &Call, first: Search) -> Result<u8, String> {
     let mut marks = LentMarks::of(random, &call.strip);
     let mut positions: Lent<u8> = Lent::of_length(random, call.answers[0]);
     let mut work: Lent<i16> = Lent::of_length(random, call.work);

@@ -141,106 +141,55 @@ fn write_case(random: &mut Random, most: usize) -> WriteCase {
     WriteCase { strip, room }
 }
 
+// The numbers that a pass must meet on strips of few marks, and on strips of up to the most that it takes, or one more. Best never gives 11.
+const FEW: &[u8] = &[0, 6, 8, 9, 10, 11, 12];
+const MANY: &[u8] = &[0, 6, 7, 8, 9, 10, 11, 12];
+const BEST_FEW: &[u8] = &[0, 6, 8, 9, 10, 12];
+const BEST_MANY: &[u8] = &[0, 6, 7, 8, 9, 10, 12];
+
+// How a call for a pass with these limits is made.
+type Make = fn(&mut Random, &Limits) -> Call;
+
+fn full_group(name: &str, seed: u64, cases: usize, numbers: &[u8], make: Make, first: full::Search) -> usize {
+    group(name, seed, cases, numbers, |r| make(r, &full::LIMITS), |r, c| full::compare(r, c, first))
+}
+
+fn slide_group(name: &str, seed: u64, cases: usize, numbers: &[u8], make: Make, fits: slide::Search) -> usize {
+    group(name, seed, cases, numbers, |r| make(r, &slide::LIMITS), |r, c| slide::compare(r, c, fits))
+}
+
+fn best_group(name: &str, seed: u64, cases: usize, numbers: &[u8], make: Make, best_sum: best::Search) -> usize {
+    group(name, seed, cases, numbers, |r| make(r, &best::LIMITS), |r, c| best::compare(r, c, best_sum))
+}
+
+fn to_6(random: &mut Random, limits: &Limits) -> Call {
+    small_call(random, 6, limits)
+}
+
+fn to_9(random: &mut Random, limits: &Limits) -> Call {
+    small_call(random, 9, limits)
+}
+
+fn to_10(random: &mut Random, limits: &Limits) -> Call {
+    small_call(random, 10, limits)
+}
+
 pub fn run_all() -> usize {
     let reader = |random: &mut Random, case: &ReadCase| job::compare_read(random, &case.bytes, case.rooms);
     let writer = |random: &mut Random, case: &WriteCase| job::compare_write(random, &case.strip, case.room);
     [
-        group(
-            "full, to 9 marks, plain search",
-            1,
-            30_000,
-            &[0, 6, 8, 9, 10, 11, 12],
-            |r| small_call(r, 9, &full::LIMITS),
-            |r, c| full::compare(r, c, full::by_plain_search),
-        ),
-        group(
-            "full, to 9 marks, dead ends kept",
-            2,
-            10_000,
-            &[0, 6, 8, 9, 10, 11, 12],
-            |r| small_call(r, 9, &full::LIMITS),
-            |r, c| full::compare(r, c, full::by_dead_ends),
-        ),
-        group(
-            "full, to 4,000 marks, dead ends kept",
-            3,
-            3_000,
-            &[0, 6, 7, 8, 9, 10, 11, 12],
-            |r| large_call(r, &full::LIMITS),
-            |r, c| full::compare(r, c, full::by_dead_ends),
-        ),
-        group(
-            "full, strips 7, 8, 9 and 11, plain search",
-            14,
-            500,
-            &[0, 6, 8, 9, 10, 11, 12],
-            |r| worked_call(r, &full::LIMITS),
-            |r, c| full::compare(r, c, full::by_plain_search),
-        ),
-        group(
-            "slide, to 6 marks, parts of a dot",
-            4,
-            3_000,
-            &[0, 11],
-            |r| crowded_call(r, &slide::LIMITS),
-            |r, c| slide::compare(r, c, slide::by_parts_of_a_dot),
-        ),
-        group(
-            "slide, to 10 marks, all sides",
-            5,
-            20_000,
-            &[0, 6, 8, 9, 10, 11, 12],
-            |r| small_call(r, 10, &slide::LIMITS),
-            |r, c| slide::compare(r, c, slide::by_all_sides),
-        ),
-        group(
-            "slide, to 60 marks, all reaches",
-            6,
-            4_000,
-            &[0, 6, 7, 8, 9, 10, 11, 12],
-            |r| large_call(r, &slide::LIMITS),
-            |r, c| slide::compare(r, c, slide::by_reaches),
-        ),
-        group(
-            "slide, strips 7, 8, 9 and 11, all sides",
-            15,
-            500,
-            &[0, 6, 8, 9, 10, 11, 12],
-            |r| worked_call(r, &slide::LIMITS),
-            |r, c| slide::compare(r, c, slide::by_all_sides),
-        ),
-        group(
-            "best, to 6 marks, plain search",
-            7,
-            20_000,
-            &[0, 6, 8, 9, 10, 12],
-            |r| small_call(r, 6, &best::LIMITS),
-            |r, c| best::compare(r, c, best::by_plain_search),
-        ),
-        group(
-            "best, to 60 marks, all reaches",
-            8,
-            1_500,
-            &[0, 6, 7, 8, 9, 10, 12],
-            |r| large_call(r, &best::LIMITS),
-            |r, c| best::compare(r, c, best::by_reaches),
-        ),
-        group(
-            "best, strips 7, 8, 9 and 11, plain search",
-            16,
-            500,
-            &[0, 6, 8, 9, 10, 12],
-            |r| worked_call(r, &best::LIMITS),
-            |r, c| best::compare(r, c, best::by_plain_search),
-        ),
-        group(
-            "best, all but four left out, all reaches",
-            13,
-            1_500,
-            &[0],
-            |r| many_left_out_call(r, &best::LIMITS),
-            |r, c| best::compare(r, c, best::by_reaches),
-        ),
+        full_group("full, to 9 marks, plain search", 1, 30_000, FEW, to_9, full::by_plain_search),
+        full_group("full, to 9 marks, dead ends kept", 2, 10_000, FEW, to_9, full::by_dead_ends),
+        full_group("full, to 4,000 marks, dead ends kept", 3, 3_000, MANY, large_call, full::by_dead_ends),
+        full_group("full, strips 7, 8, 9 and 11, plain search", 14, 500, FEW, worked_call, full::by_plain_search),
+        slide_group("slide, to 6 marks, parts of a dot", 4, 3_000, &[0, 11], crowded_call, slide::by_parts_of_a_dot),
+        slide_group("slide, to 10 marks, all sides", 5, 20_000, FEW, to_10, slide::by_all_sides),
+        slide_group("slide, to 60 marks, all reaches", 6, 4_000, MANY, large_call, slide::by_reaches),
+        slide_group("slide, strips 7, 8, 9 and 11, all sides", 15, 500, FEW, worked_call, slide::by_all_sides),
+        best_group("best, to 6 marks, plain search", 7, 20_000, BEST_FEW, to_6, best::by_plain_search),
+        best_group("best, to 60 marks, all reaches", 8, 1_500, BEST_MANY, large_call, best::by_reaches),
+        best_group("best, strips 7, 8, 9 and 11, plain search", 16, 500, BEST_FEW, worked_call, best::by_plain_search),
+        best_group("best, all but four left out, all reaches", 13, 1_500, &[0], many_left_out_call, best::by_reaches),
         group("read, to 40 marks", 9, 30_000, &[0, 1, 2, 3, 4, 5, 9], |r| read_case(r, 40), reader),
         group("read, to 4,000 marks", 10, 1_000, &[0, 1, 2, 3, 4, 5, 9], |r| read_case(r, 4_000), reader),
         group("write, to 40 marks", 11, 15_000, &[0, 6, 7, 8, 9], |r| write_case(r, 40), writer),

@@ -92,7 +92,10 @@ fn placing(strip: &Strip, gap: i32, sides: &Lent<u8>, edges: &Lent<i16>) -> Resu
     ensure((0..marks).all(apart), "labels overlap")
 }
 
-pub fn compare(random: &mut Random, call: &Call, fits: fn(&Strip, i32) -> bool) -> Result<u8, String> {
+// A search that says whether there is a placing at a gap.
+pub type Search = fn(&Strip, i32) -> bool;
+
+pub fn compare(random: &mut Random, call: &Call, fits: Search) -> Result<u8, String> {
     let mut marks = LentMarks::of(random, &call.strip);
     let mut sides: Lent<u8> = Lent::of_length(random, call.answers[0]);
     let mut edges: Lent<i16> = Lent::of_length(random, call.answers[1]);
