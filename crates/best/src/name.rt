@@ -3,8 +3,8 @@
 use crate::position::Position;
 use crate::position::is_leftward;
 use geometry::dot::dot_of;
-use geometry::ends::EMPTY_REACH;
 use geometry::limits::MOST_SHORT;
+use geometry::outside::EMPTY_REACH;
 ghost use mathlib.Core.Path.{_≡_};
 ghost use mathlib.Core.Bool.{cond};
 ghost use Prim.Native.Nat.{_≤_, _<_};

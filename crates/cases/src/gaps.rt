@@ -25,20 +25,43 @@ fn strips9_and_11(agreed: u32) -> u32 {
     worked::best_leaves_out(b, 611, 1, 10, &[9, 2, 9, 9, 9], 36, 2)
 }
 
-// The full pass at gap 8 on four labels of 10 dots must give this number, and these 8 bytes for a position list.
-fn widest_gives(agreed: u32, case: u32, places: &[i16; 4], number: u8, wanted: u64) -> u32 {
+// The full pass on four labels of this length must give this number, and these 8 bytes for a position list.
+pub fn four_give(
+    agreed: u32,
+    case: u32,
+    places: &[i16; 4],
+    length: u8,
+    gap: u8,
+    number: u8,
+    wanted: u64,
+) -> u32 {
     let mut positions = [lists::UNWRITTEN; 8];
     let mut work = [0i16; full::WORK_NAMED];
-    let got = full::full(places, &[10; 4], &[1; 4], 8, &mut positions, &mut work);
+    let got = full::full(
+        places,
+        &[length; 4],
+        &[1; 4],
+        gap,
+        &mut positions,
+        &mut work,
+    );
     let first = tally::same_byte(agreed, case, got, number);
     tally::holds(first, case, lists::is_written(&positions, wanted))
 }
 
 // Behind labels that end at 0 and at 1 the next may begin at 8 and at 9, and not a dot sooner.
 fn widest(agreed: u32) -> u32 {
-    let a = widest_gives(agreed, 621, &[0, 1, 8, 9], 0, 0x02_03_01_04_77_77_77_77);
-    let b = widest_gives(a, 622, &[0, 1, 7, 9], 11, 0x77_77_77_77_77_77_77_77);
-    widest_gives(b, 623, &[0, 1, 7, 8], 11, 0x77_77_77_77_77_77_77_77)
+    let a = four_give(
+        agreed,
+        621,
+        &[0, 1, 8, 9],
+        10,
+        8,
+        0,
+        0x02_03_01_04_77_77_77_77,
+    );
+    let b = four_give(a, 622, &[0, 1, 7, 9], 10, 8, 11, 0x77_77_77_77_77_77_77_77);
+    four_give(b, 623, &[0, 1, 7, 8], 10, 8, 11, 0x77_77_77_77_77_77_77_77)
 }
 
 // Marks at 5 and at `second` must give this number.

@@ -8,8 +8,9 @@ use native.Mathlib.Omega.{arith}
 use lib.Dec.{leb}
 use borrow.Author.Tests.{le-leb, lt-leb}
 use Rattle.geometry.specs.Dot.{emptyReach}
+use Rattle.geometry.specs.inner.Outside.{noReach}
 use Rattle.geometry.proofs.Split.{by-leb}
-use Rattle.full.specs.inner.Row.{noReach, candidates}
+use Rattle.full.specs.inner.Row.{candidates}
 
 module _ (t left right keptLeft keptRight : ℕ) (order : left ≤ right) where
   -- the next mark's labels on this side: both fit, only the one to the right, or none

@@ -25,10 +25,10 @@ use Rattle.geometry.proofs.Verdicts.{zero-accepted}
 use Rattle.geometry.proofs.Accepted.{Accepted, PassAccepted, pass-accepted, accepted-rising, length-marks, marks-from}
 use Rattle.full.specs.Full.{workNamed, FullLent, fullChecks, FullContract, fullVerdict, positionsAfter}
 use Rattle.full.specs.inner.Rest.{can, walk}
+use Rattle.full.specs.inner.SixteenBits.{Each, EndsHeld, Narrow}
 use Rattle.full.specs.inner.Table.{Ready, Filled, WalkReady, Walked}
-use Rattle.full.proofs.Within.{Inside}
+use Rattle.full.proofs.EndsHeld.{marks-held}
 use Rattle.full.proofs.First.{first-placing-is}
-use Rattle.full.proofs.RowPicks.{marks-inside}
 use Rattle.full.proofs.Fits.{fits-by-count}
 
 module _ (s : Strip) (g : ℕ) (entry : FullLent) where
@@ -56,6 +56,9 @@ module _ (s : Strip) (g : ℕ) (entry : FullLent) where
     good : Accepted mostMarks s
     good = accepted-parts .entered
 
+    narrow : Narrow g
+    narrow = let gap = accepted-parts .gap-narrow in omega arith
+
     -- the work area may be any that is as long as the lent one
     pub ready-to-fill : (work : List ℤ) → length work ≡ length (entry .work) → Ready (s .places) (s .lengths) g work
     ready-to-fill work long =
@@ -65,14 +68,20 @@ module _ (s : Strip) (g : ℕ) (entry : FullLent) where
           few = good .few;
           places-good = good .places-good;
           lengths-good = good .lengths-good;
-          gap-narrow = accepted-parts .gap-narrow;
+          gap-narrow = narrow;
           roomy = omega arith;
         }
 
     module _ (table : List ℤ) (count : ℕ) (filled : Filled (s .places) (s .lengths) g (entry .work) table count) where
       -- a table whose first mark keeps something is what the walk asks for
       pub ready-to-walk : length table ≡ length (entry .work) → (count ≡ 0 → ⊥) → WalkReady (s .places) (s .lengths) g table (entry .positions)
-      ready-to-walk long kept = record { ready = ready-to-fill table long; rows = filled .rows kept; places-for-all = accepted-parts .list-long }
+      ready-to-walk long kept =
+          record {
+            ready = ready-to-fill table long;
+            rows = filled .rows kept;
+            held = filled .held kept;
+            places-for-all = accepted-parts .list-long;
+          }
 
       -- the count says whether the strip can be placed
       fits : can g emptyReach emptyReach (marksOf s) ≡ not (eqb count 0)
@@ -81,8 +90,8 @@ module _ (s : Strip) (g : ℕ) (entry : FullLent) where
           ⊎-elim
           (λ (h : 0 < length (s .places)).
           let first : marksOf s ≡ markAt s 0 ∷ drop 1 (marksOf s) = marks-from s 0 (good .same-lengths) (good .same-weights) h in
-          let inside = subst (Inside g) first (marks-inside g s (accepted-parts .gap-narrow) (good .places-good) (good .lengths-good)) in
-          ap (can g emptyReach emptyReach) first ∙ fits-by-count g (markAt s 0) (drop 1 (marksOf s)) inside
+          let held = subst (Each (EndsHeld g)) first (marks-held g s narrow (good .places-good) (good .lengths-good)) in
+          ap (can g emptyReach emptyReach) first ∙ fits-by-count g (markAt s 0) (drop 1 (marksOf s)) held
           ∙ ap (λ (n : ℕ). not (eqb n 0)) (sym (filled .first-count h (s .weights) (good .same-weights))))
           (λ (h : length (s .places) ≤ 0).
           let no-marks : marksOf s ≡ [] =

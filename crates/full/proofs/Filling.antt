@@ -1,6 +1,6 @@
 -- What holds while the table is filled from the last mark to the first: its rows from the current mark on are right, and the kept part
 -- layouts in hand are the current mark's. One turn stores the row before; where that keeps nothing, the first mark keeps nothing.
-use mathlib.Core.Path.{_≡_, refl, sym, _∙_, ap}
+use mathlib.Core.Path.{_≡_, refl, sym, _∙_, ap, subst}
 use mathlib.Core.List.{List, map}
 use Prim.Native.Nat.{ℕ, _+_, _*_, _<_}
 use native.Mathlib.Omega.{arith}
@@ -8,11 +8,24 @@ use lib.IntN.{ℤ, pos}
 use lib.ListN.{length, getD, drop}
 use lib.Seq.{sets, length-sets}
 use Rattle.geometry.specs.Dot.{dot}
-use Rattle.geometry.specs.Strip.{strip}
+use Rattle.geometry.specs.Strip.{strip, marksOf}
+use Rattle.geometry.specs.inner.At.{markAt}
+use Rattle.geometry.specs.inner.Outside.{noBound}
 use Rattle.full.specs.Full.{workNamed}
-use Rattle.full.specs.inner.Row.{anyReach, alike, countOf, four, rowBefore, Counted}
-use Rattle.full.specs.inner.Table.{AnyWeights, rowIn, RowsFrom, Ready, Filled}
-use Rattle.full.proofs.Rows.{last-row, row-before, none-kept-first, drop-sets, one-more-row}
+use Rattle.full.specs.inner.Row.{alike, countOf, rowIn}
+use Rattle.full.specs.inner.SixteenBits.{Stored, isUnbounded}
+use Rattle.full.specs.inner.OneMark.{four, RowHeld, rowBefore, Counted}
+use Rattle.full.specs.inner.Table.{AnyWeights, RowsFrom, TableHeld, Ready, Filled}
+use Rattle.full.proofs.EndsHeld.{marks-held, held-drop}
+use Rattle.full.proofs.SixteenBits.{each-at, row-stored}
+use Rattle.full.proofs.Rows.{last-row, row-before, none-kept-first, drop-sets, one-more-row, row-number}
+
+-- the row of the last mark, as signed numbers, holds the table's: no bound, four times
+abbrev pub unbounded : List ℤ
+unbounded = alike (pos 32767) (pos 32767)
+
+pub unbounded-held : RowHeld unbounded
+unbounded-held = let no-bound : Stored noBound = isUnbounded refl in (no-bound, (no-bound, (no-bound, (no-bound, tt))))
 
 -- `reaches` and `count` are the kept part layouts of the mark with index i
 pub record Filling (places : List ℤ) (lengths : List ℕ) (g : ℕ) (entry work reaches : List ℤ) (count i : ℕ) : Type 0 where
@@ -31,15 +44,15 @@ module _ (places : List ℤ) (lengths : List ℕ) (g : ℕ) where
 
   -- the last mark; `work` is the work area after its store
   pub filling-last : (entry work reaches : List ℤ) (k : ℕ) → Ready places lengths g entry → k + 1 ≡ length places
-      → map dot (four reaches) ≡ alike anyReach anyReach → work ≡ sets entry (4 * k) (four reaches)
+      → map dot (four reaches) ≡ alike noBound noBound → RowHeld reaches → work ≡ sets entry (4 * k) (four reaches)
       → Filling places lengths g work work reaches 4 k
   unfolding countOf
-  filling-last entry work reaches k ready last unbounded stored =
+  filling-last entry work reaches k ready last row-is held stored =
       let few = ready .few in
       let roomy = ready .roomy in
       let long : length work ≡ length entry = ap length stored ∙ length-sets entry (4 * k) (four reaches) in
       let row : AnyWeights places lengths (λ s. map dot (four reaches) ≡ rowIn g s k) =
-      λ ws same. unbounded ∙ sym (last-row g (strip places lengths ws) (ready .same-lengths) same k last) in
+      λ ws same. row-is ∙ sym (last-row g (strip places lengths ws) (ready .same-lengths) same k last) in
       record {
         ready = record {
           same-lengths = ready .same-lengths;
@@ -50,7 +63,8 @@ module _ (places : List ℤ) (lengths : List ℕ) (g : ℕ) where
           roomy = omega arith;
         };
         inside = omega arith;
-        counted = λ ws same. record { reaches-are = row ws same; count-is = ap countOf (sym unbounded ∙ row ws same) };
+        counted = λ ws same.
+            record { reaches-are = row ws same; reaches-held = held; count-is = ap countOf (sym row-is ∙ row ws same) };
         rows = λ ws same.
             rw stored (one-more-row g (strip places lengths ws) entry k reaches (omega arith) (λ j low high. absurd (omega arith)) (row ws same));
         rest-kept = refl;
@@ -95,17 +109,29 @@ module _ (places : List ℤ) (lengths : List ℕ) (g : ℕ) where
               (sym (counted-before ws same .count-is) ∙ none));
           empty-count = λ empty. absurd (omega arith);
           rows = λ some. absurd (some refl);
+          held = λ some. absurd (some refl);
           rest-kept = f .rest-kept ∙ kept-there;
         }
+
+  -- rows that are right hold the table's numbers; they do not depend on weights, so any list as long as the places will do for these
+  table-held : (entry work : List ℤ) → Ready places lengths g entry → AnyWeights places lengths (RowsFrom g 0 work) → TableHeld work (length places)
+  table-held entry work ready rows j q few h =
+      let s = strip places lengths lengths in
+      let behind = held-drop g (j + 1) (marksOf s) (marks-held g s (ready .gap-narrow) (ready .places-good) (ready .lengths-good)) in
+      let row = row-stored g (markAt s j) (drop (j + 1) (marksOf s)) behind in
+      let number = row-number work j q (rowIn g s j) (rows lengths (ready .same-lengths) j (omega arith) few) h in
+      subst Stored (sym number) (each-at Stored (rowIn g s j) (dot (pos 0)) q row h)
 
   -- the first mark: the table is full
   pub filling-done : (start entry work reaches : List ℤ) (count i : ℕ) → Filling places lengths g entry work reaches count i → i ≡ 0
       → drop workNamed entry ≡ drop workNamed start → Filled places lengths g start work count
   filling-done start entry work reaches count i f e kept =
       let inside = f .inside in
+      let rows : AnyWeights places lengths (RowsFrom g 0 work) = λ ws same. rw e at (f .rows ws same) in
       record {
         first-count = λ some ws same. rw e at (f .counted ws same .count-is);
         empty-count = λ empty. absurd (omega arith);
-        rows = λ some ws same. rw e at (f .rows ws same);
+        rows = λ some. rows;
+        held = λ some. table-held entry work (f .ready) rows;
         rest-kept = f .rest-kept ∙ kept;
       }

@@ -17,7 +17,7 @@ use Rattle.geometry.specs.inner.Rising.{Rising}
 use Rattle.geometry.specs.inner.Machine.{roomFor, nextAbove, nextBelow, Go}
 use Rattle.geometry.proofs.Split.{both, and-fst, and-snd, clash}
 use Rattle.geometry.proofs.Machine.{room-passes, passes-room, free-iff-go}
-use Rattle.full.specs.inner.Rest.{can, leaves, firstPassed, walk}
+use Rattle.full.specs.inner.Rest.{can, leaves, firstPassed, steps, walk}
 
 -- the walk over a given choice, as a test
 unfoldable goes : ℕ → ℕ → ℕ → List Mark → List Position → Bool
@@ -164,7 +164,7 @@ module _ (g a b : ℕ) (m : Mark) (ms : List Mark)
 
   -- and the first of all four letters is the one that the walk picks
   four-letters : firstOf (goes g a b (m ∷ ms)) (prefixed ranked words) ≡ found g a b (m ∷ ms)
-  unfolding prefixed firstOf can walk
+  unfolding prefixed firstOf can steps
   four-letters =
       let leaving = leaves g a b m ms in
       letter-first (at above leftward) _ _
@@ -175,7 +175,7 @@ module _ (g a b : ℕ) (m : Mark) (ms : List Mark)
 
 -- so the first word that goes through is the walk's, by induction on the marks
 first-walk : (g : ℕ) (ms : List Mark) (a b : ℕ) → firstOf (goes g a b ms) (wordsOf ranked (length ms)) ≡ found g a b ms
-unfolding wordsOf firstOf goes can walk
+unfolding wordsOf firstOf goes can steps
 first-walk g [] a b = refl
 first-walk g (m ∷ ms) a b = four-letters g a b m ms (first-walk g ms)
 

@@ -14,7 +14,7 @@ use Rattle.geometry.specs.Overlap.{leftEnd, rightEnd}
 use Rattle.geometry.proofs.Split.{by-leb}
 use Rattle.full.specs.inner.Rest.{can}
 use Rattle.full.specs.inner.Row.{greatest, rowOf, keptOne, countOf}
-use Rattle.full.proofs.Within.{Inside, Reach}
+use Rattle.full.specs.inner.SixteenBits.{Carried, isEmpty, Each, EndsHeld}
 use Rattle.full.proofs.RowPicks.{leaves-by-row}
 
 -- a kept part layout is one that a side without labels meets
@@ -31,15 +31,14 @@ some-passed true false = refl
 some-passed false true = refl
 some-passed false false = refl
 
-module _ (g : ℕ) (m : Mark) (rest : List Mark) (inside : Inside g (m ∷ rest)) where
-  -- the reach of a side without labels is inside the coordinates
-  empty : Reach emptyReach
-  empty = record { some = omega arith; inside = omega arith }
+module _ (g : ℕ) (m : Mark) (rest : List Mark) (held : Each (EndsHeld g) (m ∷ rest)) where
+  -- a side without labels
+  empty : Carried emptyReach
+  empty = isEmpty refl
 
-  -- and leaves room for each label of the first mark
+  -- leaves room for each label of the first mark
   room : (d : Direction) → leb emptyReach (leftEnd m d) ≡ true
-  room leftward = le-leb emptyReach (leftEnd m leftward) (omega arith)
-  room rightward = le-leb emptyReach (leftEnd m rightward) (omega arith)
+  room d = let edge = held .0 .left-edge d in le-leb emptyReach (leftEnd m d) (omega arith)
 
   -- a label in a direction leaves something to an empty side
   abbrev kept : Direction → Bool
@@ -49,7 +48,7 @@ module _ (g : ℕ) (m : Mark) (rest : List Mark) (inside : Inside g (m ∷ rest)
   pub fits-by-count : can g emptyReach emptyReach (m ∷ rest) ≡ not (eqb (countOf (rowOf g m rest)) 0)
   unfolding can countOf
   fits-by-count =
-      let leaves = leaves-by-row g emptyReach emptyReach m rest empty empty inside in
+      let leaves = leaves-by-row g emptyReach emptyReach m rest empty empty held in
       rw (
         leaves above leftward,
         leaves below leftward,

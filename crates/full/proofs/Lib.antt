@@ -1,5 +1,7 @@
 -- Laws that belong to no one function, in reading order.
 pub mod Candidates
+pub mod EndsHeld
+pub mod SixteenBits
 pub mod Within
 pub mod First
 pub mod Rows

@@ -2,7 +2,7 @@
 -- The row of a mark is computed from the next mark's row by the very candidates of its definition. Where the next mark keeps nothing,
 -- its four bounds are 0: they allow nothing on the own side, and no reach, which is at least 1, is within them on the other side. So
 -- the mark before it keeps nothing either, and by induction the first mark does not.
-use mathlib.Core.Path.{_≡_, refl, _∙_, ap}
+use mathlib.Core.Path.{_≡_, refl, sym, _∙_, ap}
 use mathlib.Core.Bool.{true, cond}
 use mathlib.Core.Logic.{_⊎_, ⊎-elim}
 use mathlib.Core.List.{List, [], _∷_, _++_, map, append-assoc}
@@ -10,8 +10,8 @@ use Prim.Native.Nat.{ℕ, zero, suc, _+_, _-_, _*_, _≤_, _<_}
 use native.Mathlib.Omega.{arith}
 use native.Mathlib.Numerals.{add-one}
 use lib.IntN.{ℤ, pos}
-use lib.ListN.{length, getD, take, drop, set, drop-of-length-le}
-use lib.Seq.{sets, sets-eq, drop-set-lt, drop-at, take-at, length-take-le}
+use lib.ListN.{length, getD, take, drop, set, drop-of-length-le, List·getD-map}
+use lib.Seq.{sets, sets-eq, drop-set-lt, drop-at, take-at, length-take-le, getD-take, getD-drop}
 use Rattle.geometry.specs.Dot.{dot}
 use Rattle.geometry.specs.Lists.{every}
 use Rattle.geometry.specs.Mark.{Mark, placeInRange}
@@ -19,11 +19,13 @@ use Rattle.geometry.specs.Strip.{Strip, marksOf}
 use Rattle.geometry.specs.Position.{leftward, rightward}
 use Rattle.geometry.specs.Overlap.{rightEnd}
 use Rattle.geometry.specs.inner.At.{markAt}
+use Rattle.geometry.specs.inner.Outside.{noReach, noBound}
 use Rattle.geometry.proofs.Split.{by-eqb, lt-or-ge}
 use Rattle.geometry.proofs.Dots.{range-dots}
 use Rattle.geometry.proofs.Accepted.{length-marks, marks-from, every-at}
-use Rattle.full.specs.inner.Row.{noReach, anyReach, greatest, alike, rowOf, keptOne, countOf, four, rowBefore}
-use Rattle.full.specs.inner.Table.{rowIn, RowsFrom}
+use Rattle.full.specs.inner.Row.{greatest, alike, rowOf, rowIn, keptOne, countOf}
+use Rattle.full.specs.inner.OneMark.{four, rowBefore}
+use Rattle.full.specs.inner.Table.{rowAt, RowsFrom}
 use Rattle.full.proofs.Candidates.{none-beside}
 
 -- the row of a mark from the row of the next one
@@ -50,7 +52,7 @@ none-kept-before g m n rest some e =
 
 module _ (g : ℕ) (s : Strip) (same : length (s .places) ≡ length (s .lengths)) (weighed : length (s .places) ≡ length (s .weights)) where
   -- the last mark leaves no bound
-  pub last-row : (k : ℕ) → k + 1 ≡ length (s .places) → rowIn g s k ≡ alike anyReach anyReach
+  pub last-row : (k : ℕ) → k + 1 ≡ length (s .places) → rowIn g s k ≡ alike noBound noBound
   unfolding greatest
   last-row k last = rw (drop-of-length-le (marksOf s) {i = k + 1} (omega (arith, length-marks s same weighed))) refl
 
@@ -96,3 +98,11 @@ one-more-row g s work k reaches room rows row j low high =
     (λ (here : j ≤ k).
     let same : j ≡ k = omega arith in rw same (ap (map dot) (stored-row work (four reaches) (4 * k) refl room) ∙ row))
     (lt-or-ge k j)
+
+-- a number of a row, read from the work area
+pub row-number : (work : List ℤ) (i q : ℕ) (row : List ℕ) → map dot (rowAt work i) ≡ row → q < 4
+    → dot (getD work (4 * i + q) (pos 0)) ≡ getD row q (dot (pos 0))
+row-number work i q row e h =
+    ap dot (sym (getD-take 4 (drop (4 * i) work) q (pos 0) h ∙ getD-drop (4 * i) work q (pos 0)))
+    ∙ sym (List·getD-map dot (rowAt work i) q (pos 0))
+    ∙ ap (λ (xs : List ℕ). getD xs q (dot (pos 0))) e

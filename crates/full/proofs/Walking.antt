@@ -5,8 +5,7 @@ use mathlib.Core.List.{List, [], _∷_, _++_, map, append-nil}
 use Prim.Native.Nat.{ℕ, _+_, _-_, _*_, _≤_, _<_}
 use native.Mathlib.Omega.{arith}
 use native.Mathlib.Numerals.{add-one}
-use lib.IntN.{ℤ, pos, negsuc}
-use lib.Signed.{mag}
+use lib.IntN.{ℤ, pos}
 use lib.ListN.{length, getD, take, drop, set, length-set, drop-of-length-le}
 use lib.Seq.{append-snoc, length-take-le}
 use Rattle.geometry.specs.Dot.{dot, emptyReach}
@@ -16,11 +15,14 @@ use Rattle.geometry.specs.Position.{Position, code}
 use Rattle.geometry.specs.inner.At.{markAt}
 use Rattle.geometry.proofs.Lent.{take-more, drop-more, written-whole}
 use Rattle.geometry.proofs.Accepted.{length-marks, marks-from}
-use Rattle.full.specs.inner.Rest.{pick, walk, pickByRow, Stepped}
+use Rattle.full.specs.inner.Rest.{pick, steps, walk, pickByRow}
 use Rattle.full.specs.inner.Row.{rowOf}
+use Rattle.full.specs.inner.SixteenBits.{Carried, isEmpty, Each, EndsHeld}
+use Rattle.full.specs.inner.OneMark.{StepReady, Stepped}
 use Rattle.full.specs.inner.Table.{AnyWeights, rowAt, WalkReady, Walked}
-use Rattle.full.proofs.Within.{Inside, Reach}
-use Rattle.full.proofs.RowPicks.{marks-inside, inside-drop, row-picks, row-number, next-some}
+use Rattle.full.proofs.EndsHeld.{marks-held, held-drop, mark-formed}
+use Rattle.full.proofs.Rows.{row-number}
+use Rattle.full.proofs.RowPicks.{row-picks}
 
 -- the numbers of the positions that the walk takes from the mark with index i on, beside the reaches a and b
 abbrev pub numbersFrom : ℕ → Strip → ℕ → ℕ → ℕ → List ℕ
@@ -32,32 +34,23 @@ pub record Walking (places : List ℤ) (lengths : List ℕ) (g : ℕ) (work : Li
   pub ready : WalkReady places lengths g work entry
   pub inside : i ≤ length places
   pub long : length positions ≡ length entry
-  pub above-some : emptyReach ≤ dot above
-  pub below-some : emptyReach ≤ dot below
-  pub above-held : mag above < 32768
-  pub below-held : mag below < 32768
+  pub above-held : Carried (dot above)
+  pub below-held : Carried (dot below)
   pub so-far : AnyWeights places lengths
       (λ s. numbersFrom g s 0 emptyReach emptyReach ≡ take i positions ++ numbersFrom g s i (dot above) (dot below))
   pub untouched : drop i positions ≡ drop i entry
 
--- a reach held in 16 bits, no less than that of an empty side, is inside the coordinates
-held-reach : (z : ℤ) → emptyReach ≤ dot z → mag z < 32768 → Reach (dot z)
-held-reach (pos n) some held = record { some = some; inside = omega arith }
-held-reach (negsuc n) some held = record { some = some; inside = omega arith }
-
 module _ (places : List ℤ) (lengths : List ℕ) (g : ℕ) (work : List ℤ) (entry : List ℕ) where
   -- before the first mark nothing is written and both sides are empty
-  pub walking-start : (above below : ℤ) → dot above ≡ emptyReach → dot below ≡ emptyReach → mag above < 32768 → mag below < 32768
-      → WalkReady places lengths g work entry → Walking places lengths g work entry entry above below 0
-  walking-start above below above-empty below-empty above-held below-held ready =
+  pub walking-start : (above below : ℤ) → dot above ≡ emptyReach → dot below ≡ emptyReach → WalkReady places lengths g work entry
+      → Walking places lengths g work entry entry above below 0
+  walking-start above below above-empty below-empty ready =
       record {
         ready = ready;
         inside = omega arith;
         long = refl;
-        above-some = omega arith;
-        below-some = omega arith;
-        above-held = above-held;
-        below-held = below-held;
+        above-held = isEmpty above-empty;
+        below-held = isEmpty below-empty;
         so-far = λ ws same. rw (above-empty, below-empty) refl;
         untouched = refl;
       }
@@ -75,6 +68,20 @@ module _ (places : List ℤ) (lengths : List ℕ) (g : ℕ) (work : List ℤ) (e
     taken = pickByRow (dot above) (dot below) (dot here - getD lengths i 0) (dot here) (cell (4 * i)) (cell (4 * i + 1)) (cell (4 * i + 2))
 
     module _ (more : i < length places) where
+      -- what the step at the mark here asks
+      pub step-ready : let number : ℕ → ℤ = λ n. getD work n (pos 0) in
+          StepReady above below here (getD lengths i 0) g (number (4 * i)) (number (4 * i + 1)) (number (4 * i + 2))
+      step-ready =
+          let good = w .ready .ready in
+          let first : 4 * i + 0 ≡ 4 * i = omega arith in
+          let held = w .ready .held i in
+          record {
+            above-held = w .above-held;
+            below-held = w .below-held;
+            formed = mark-formed places lengths g work good i more;
+            row-held = (rw first at (held 0 more (omega arith)), (held 1 more (omega arith), (held 2 more (omega arith), tt)));
+          }
+
       -- whatever the weights are, the row picks what the definition picks
       module _ (ws : List ℕ) (same : length places ≡ length ws) where
         -- the strip with these weights, and the marks behind the one here
@@ -84,15 +91,15 @@ module _ (places : List ℤ) (lengths : List ℕ) (g : ℕ) (work : List ℤ) (e
         abbrev behind : List Mark
         behind = drop (i + 1) (marksOf whole)
 
-        -- what is left is the mark here and those behind it, all inside the coordinates
+        -- what is left is the mark here and those behind it, their ends all in range
         from-here : drop i (marksOf whole) ≡ markAt whole i ∷ behind
         from-here = rw (add-one i) (marks-from whole i (w .ready .ready .same-lengths) same more)
 
-        inside-here : Inside g (markAt whole i ∷ behind)
-        inside-here =
+        held-here : Each (EndsHeld g) (markAt whole i ∷ behind)
+        held-here =
             let good = w .ready .ready in
-            subst (Inside g) from-here
-            (inside-drop g i (marksOf whole) (marks-inside g whole (good .gap-narrow) (good .places-good) (good .lengths-good)))
+            subst (Each (EndsHeld g)) from-here
+            (held-drop g i (marksOf whole) (marks-held g whole (good .gap-narrow) (good .places-good) (good .lengths-good)))
 
         -- the row in the work area is the mark's, so it picks what the definition picks
         taken-is : taken ≡ pick g (dot above) (dot below) (markAt whole i) behind
@@ -105,31 +112,26 @@ module _ (places : List ℤ) (lengths : List ℕ) (g : ℕ) (work : List ℤ) (e
               row-number work i 1 row stored (omega arith),
               row-number work i 2 row stored (omega arith),
             )
-            (row-picks g (dot above) (dot below) (markAt whole i) behind (held-reach above (w .above-some) (w .above-held))
-            (held-reach below (w .below-some) (w .below-held)) inside-here)
+            (row-picks g (dot above) (dot below) (markAt whole i) behind (w .above-held) (w .below-held) held-here)
 
       module _ (position : ℕ) (above′ below′ : ℤ) (s : Stepped g above below here (getD lengths i 0) taken position above′ below′) where
         -- so the walk from here on begins with the number that the step gives
         numbers-here : AnyWeights places lengths
             (λ s. numbersFrom g s i (dot above) (dot below) ≡ position ∷ numbersFrom g s (i + 1) (dot above′) (dot below′))
-        unfolding walk
+        unfolding steps
         numbers-here ws same =
             let weight = getD ws i 0 in
             rw (from-here ws same, sym (taken-is ws same), s .position-is, s .above-is weight, s .below-is weight) refl
 
         -- one mark more
-        pub walking-more : emptyReach ≤ dot here → Walking places lengths g work entry (set positions i position) above′ below′ (i + 1)
-        walking-more placed =
+        pub walking-more : Walking places lengths g work entry (set positions i position) above′ below′ (i + 1)
+        walking-more =
             let room = w .ready .places-for-all in
             let long = w .long in
-            let mark : Mark = record { place = dot here; labelLength = getD lengths i 0; weight = 0 } in
-            let some = next-some g taken mark (dot above) (dot below) (w .above-some) (w .below-some) placed in
             record {
               ready = w .ready;
               inside = omega arith;
               long = length-set positions i position ∙ long;
-              above-some = rw (s .above-is 0) (some .0);
-              below-some = rw (s .below-is 0) (some .1);
               above-held = s .above-held;
               below-held = s .below-held;
               so-far = λ ws same.
@@ -141,7 +143,7 @@ module _ (places : List ℤ) (lengths : List ℕ) (g : ℕ) (work : List ℤ) (e
 
     -- behind the last mark the numbers are those of the whole walk
     pub walking-done : i ≡ length places → Walked places lengths g entry positions
-    unfolding walk
+    unfolding steps
     walking-done all ws same =
         let room = w .ready .places-for-all in
         let long = w .long in

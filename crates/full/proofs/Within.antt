@@ -5,17 +5,19 @@
 use mathlib.Core.Path.{_≡_, refl, sym, _∙_}
 use mathlib.Core.Bool.{Bool, true, false, cond, _&&_, _||_, or-comm, and-comm}
 use mathlib.Core.List.{List, [], _∷_}
-use Prim.Native.Nat.{ℕ, _+_, _≤_, _<_, max}
+use Prim.Native.Nat.{ℕ, _+_, _≤_, max}
 use native.Mathlib.Omega.{arith}
 use lib.Dec.{leb}
 use borrow.Author.Tests.{le-leb, lt-leb}
 use Rattle.geometry.specs.Dot.{emptyReach}
 use Rattle.geometry.specs.Mark.{Mark}
-use Rattle.geometry.specs.Position.{Direction, leftward, rightward}
+use Rattle.geometry.specs.Position.{leftward, rightward}
 use Rattle.geometry.specs.Overlap.{leftEnd, rightEnd}
+use Rattle.geometry.specs.inner.Outside.{noReach, noBound}
 use Rattle.geometry.proofs.Split.{leb-max}
 use Rattle.full.specs.inner.Rest.{can}
-use Rattle.full.specs.inner.Row.{noReach, anyReach, candidates, greatest}
+use Rattle.full.specs.inner.Row.{candidates, greatest}
+use Rattle.full.specs.inner.SixteenBits.{Carried, isReach, isEmpty, Each, EndsHeld}
 
 -- of four tests in two pairs each pair may be exchanged
 swap-sides : (x y z w : Bool) → (x || (y || (z || w))) ≡ (y || (x || (w || z)))
@@ -66,34 +68,28 @@ within-candidates o t left right kl kr h =
     )
     (regroup (leb t left && leb o kl) (leb o left && leb t kl) (leb t right && leb o kr) (leb o right && leb t kr))
 
--- every label lies, with the gap, within the coordinates
-abbrev pub Inside : ℕ → List Mark → Type 0
-Inside g [] = Unit {0}
-Inside g (m ∷ ms) = (m .labelLength < m .place) × (m .place + m .labelLength + g ≤ anyReach) × Inside g ms
+-- a reach of the walk is at least that of a side without labels, and within no bound
+carried-some : (t : ℕ) → Carried t → emptyReach ≤ t
+carried-some t (isReach h) = omega arith
+carried-some t (isEmpty e) = omega arith
 
--- a reach of a side: of none, of a label or of the coordinates' end
-pub record Reach (t : ℕ) : Type 0 where
-  pub some : emptyReach ≤ t
-  pub inside : t ≤ anyReach
-
--- a label's right end with the gap is one
-pub right-reach : (g : ℕ) (m : Mark) (ms : List Mark) (d : Direction) → Inside g (m ∷ ms) → Reach (rightEnd m d + g)
-right-reach g m ms leftward i = record { some = omega arith; inside = omega arith }
-right-reach g m ms rightward i = record { some = omega arith; inside = omega arith }
+carried-bounded : (t : ℕ) → Carried t → t ≤ noBound
+carried-bounded t (isReach h) = omega arith
+carried-bounded t (isEmpty e) = omega arith
 
 -- The theorem, by induction on the marks.
-pub can-within : (g t o : ℕ) (ms : List Mark) → Reach t → Reach o → Inside g ms → can g t o ms ≡ leb o (greatest g t ms)
+pub can-within : (g t o : ℕ) (ms : List Mark) → Carried t → Carried o → Each (EndsHeld g) ms → can g t o ms ≡ leb o (greatest g t ms)
 unfolding can greatest
-can-within g t o [] rt ro i = sym (le-leb o anyReach (ro .inside))
-can-within g t o (m ∷ ms) rt ro i =
+can-within g t o [] ct co h = sym (le-leb o noBound (carried-bounded o co))
+can-within g t o (m ∷ ms) ct co h =
     let l = rightEnd m leftward + g in
     let r = rightEnd m rightward + g in
-    let rl = right-reach g m ms leftward i in
-    let rr = right-reach g m ms rightward i in
+    let cl : Carried l = isReach (h .0 .reach leftward) in
+    let cr : Carried r = isReach (h .0 .reach rightward) in
     rw (
-      can-within g l o ms rl ro (i .2),
-      can-mirror g t l ms ∙ can-within g l t ms rl rt (i .2),
-      can-within g r o ms rr ro (i .2),
-      can-mirror g t r ms ∙ can-within g r t ms rr rt (i .2),
+      can-within g l o ms cl co (h .1),
+      can-mirror g t l ms ∙ can-within g l t ms cl ct (h .1),
+      can-within g r o ms cr co (h .1),
+      can-mirror g t r ms ∙ can-within g r t ms cr ct (h .1),
     )
-    (sym (within-candidates o t (leftEnd m leftward) (leftEnd m rightward) _ _ (ro .some)))
+    (sym (within-candidates o t (leftEnd m leftward) (leftEnd m rightward) _ _ (carried-some o co)))

@@ -2,7 +2,9 @@
 //
 // A table, filled from the last mark to the first, says for each position of a mark how far the other side may reach so that
 // all later marks can still be placed; one walk from the left then takes at each mark the first position that the table
-// allows. One step a mark in each direction, and no step looks at more than one row.
+// allows. One step a mark in each direction, and no step looks at more than one row. Every coordinate is a signed 16-bit number, in a
+// range that specs/inner/SixteenBits.antt states.
+mod ends;
 mod kept;
 mod passed;
 mod table;

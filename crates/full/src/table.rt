@@ -4,15 +4,15 @@ ghost use Prim.Native.Nat.{_+_, _*_, _≤_, _<_};
 ghost use lib.ListN.{length};
 ghost use lib.Seq.{sets};
 ghost use Rattle.geometry.specs.Strip.{mostMarks};
-ghost use Rattle.full.specs.inner.Row.{four};
+ghost use Rattle.full.specs.inner.OneMark.{four, RowHeld};
 ghost use Rattle.full.specs.inner.Table.{Ready, Filled};
 use crate::kept::Kept;
-use crate::kept::NO_BOUND;
 use crate::kept::kept_before;
+use geometry::outside::NO_BOUND;
 
 // Puts the four reaches of the mark with index i into the table.
 fn store(work: &mut [i16], i: usize, kept: Kept)
-    requires { ⌜ (i < mostMarks) × (4 * i + 4 ≤ length (now work)) ⌝ }
+    requires { ⌜ (i < mostMarks) × (4 * i + 4 ≤ length (now work)) × RowHeld (kept .reaches) ⌝ }
     ensures { λ _. ⌜ now (work .exit) ≡ sets (now (work .entry)) (4 * i) (four (kept .reaches)) ⌝ }
 {
     let reaches = kept.reaches;

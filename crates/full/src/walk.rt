@@ -1,19 +1,18 @@
 // The walk from the left: at each mark the first position, in the order 2, 3, 1, 4, that the table allows.
 ghost use mathlib.Core.Path.{_≡_};
-ghost use mathlib.Core.Bool.{true, _&&_};
-ghost use Prim.Native.Nat.{_-_, _≤_};
+ghost use mathlib.Core.Bool.{_&&_};
+ghost use Prim.Native.Nat.{_-_};
 ghost use lib.Dec.{leb};
 ghost use Rattle.geometry.specs.Dot.{dot};
-ghost use Rattle.geometry.specs.Mark.{placeInRange};
-ghost use Rattle.geometry.specs.Pass.{mostGap};
 ghost use Rattle.geometry.specs.Position.{code};
-ghost use Rattle.full.specs.inner.Rest.{firstPassed, pickByRow, Stepped};
+ghost use Rattle.full.specs.inner.Rest.{firstPassed, pickByRow};
+ghost use Rattle.full.specs.inner.OneMark.{StepReady, Stepped};
 ghost use Rattle.full.specs.inner.Table.{WalkReady, Walked};
+use crate::ends::left_edge;
+use crate::ends::reaches_of;
 use crate::passed::if_passed;
-use geometry::ends::EMPTY_REACH;
-use geometry::ends::further;
-use geometry::ends::left_end;
 use geometry::order::at_most;
+use geometry::outside::EMPTY_REACH;
 
 // The position taken at a mark, and the reaches above and below after it.
 pub struct Taken {
@@ -45,7 +44,7 @@ fn number(two: bool, three: bool, one: bool) -> u8
 }
 
 // One step beside the reaches `above` and `below`, at a mark whose positions 2, 3 and 1 leave `first`, `second` and `third` to the
-// other side. `near` and `far` are the reaches of the label's side with the label to the left and with it to the right.
+// other side.
 fn step(
     above: i16,
     below: i16,
@@ -56,25 +55,24 @@ fn step(
     second: i16,
     third: i16,
 ) -> Taken
-    requires { ⌜ (placeInRange place ≡ true) × (gap ≤ mostGap) ⌝ }
+    requires { ⌜ StepReady above below place length gap first second third ⌝ }
     ensures { λ r. ⌜ Stepped
         gap above below place length
         (pickByRow (dot above) (dot below) (dot place - length) (dot place) (dot first) (dot second) (dot third))
         (r .position) (r .above) (r .below) ⌝ }
 {
-    let left = left_end(place, length);
-    let near = further(place, gap);
-    let far = further(near, length);
+    let left = left_edge(place, length);
+    let own = reaches_of(place, length, gap);
     let two = leaves_rest(above, left, below, first);
     let three = leaves_rest(below, left, above, second);
     let one = leaves_rest(above, place, below, third);
-    let above_right = if_passed(one, far, above);
-    let below_right = if_passed(one, below, far);
+    let above_right = if_passed(one, own.far, above);
+    let below_right = if_passed(one, below, own.far);
     let above_rest = if_passed(three, above, above_right);
-    let below_rest = if_passed(three, near, below_right);
+    let below_rest = if_passed(three, own.near, below_right);
     Taken {
         position: number(two, three, one),
-        above: if_passed(two, near, above_rest),
+        above: if_passed(two, own.near, above_rest),
         below: if_passed(two, below, below_rest),
     }
 }

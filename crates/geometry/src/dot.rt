@@ -1,7 +1,7 @@
 // Places and their dots, counted from −32,768: sums and differences of dots are unsigned.
-use crate::ends;
 use crate::limits::LEAST_PLACE;
 use crate::limits::MOST_PLACE;
+use crate::outside;
 ghost use mathlib.Core.Path.{_≡_};
 ghost use Rattle.geometry.specs.Dot.{dot};
 ghost use Rattle.geometry.specs.inner.Place.{placeOf};
@@ -15,8 +15,10 @@ pub const LEAST_DOT: u16 = (LEAST_PLACE as i32 + SHIFT) as u16;
 
 pub const MOST_DOT: u16 = (MOST_PLACE as i32 + SHIFT) as u16;
 
-// The reach of a side without labels: `emptyReach`.
-pub const EMPTY_REACH: u16 = (ends::EMPTY_REACH as i32 + SHIFT) as u16;
+// The reach of a side without labels, and a bound that every reach meets.
+pub const EMPTY_REACH: u16 = (outside::EMPTY_REACH as i32 + SHIFT) as u16;
+
+pub const NO_BOUND: u16 = (outside::NO_BOUND as i32 + SHIFT) as u16;
 
 // The dot of a place.
 pub fn dot_of(place: i16) -> u16

@@ -1,8 +1,8 @@
-// What the passes and the job calls share: numbers of document 01, the checks on entry, dots, and the ends of labels.
+// What the passes and the job calls share: numbers of document 01, the checks on entry, dots, and comparisons of coordinates.
 pub mod dot;
-pub mod ends;
 pub mod entry;
 pub mod limits;
 pub mod numbers;
 pub mod order;
+pub mod outside;
 pub mod refusal;

@@ -10,8 +10,9 @@ use native.Mathlib.Omega.{arith}
 use borrow.Author.Tests.{lt-ltb, le-ltb, ltb-true}
 use lib.Dec.{leb, ltb}
 use Rattle.geometry.specs.Mark.{Mark}
+use Rattle.geometry.specs.inner.Outside.{noBound}
 use Rattle.geometry.proofs.Split.{by-leb, lt-or-ge, same-test, leb-max}
-use Rattle.slide.specs.inner.Room.{noBound, slidBy, reachAt, reachPast, slideable, furthest, ownSide, otherSide, room}
+use Rattle.slide.specs.inner.Room.{slidBy, reachAt, reachPast, slideable, furthest, ownSide, otherSide, room}
 use Rattle.slide.proofs.Slideable.{exchanged, smaller-reach}
 use Rattle.slide.proofs.FurthestSlide.{furthest-within, furthest-exact}
 

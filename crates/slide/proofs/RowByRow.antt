@@ -9,10 +9,11 @@ use lib.ListN.{length, getD, drop}
 use lib.Seq.{drop-drop, getD-drop}
 use Rattle.geometry.specs.Dot.{dot}
 use Rattle.geometry.specs.Mark.{Mark}
+use Rattle.geometry.specs.inner.Outside.{noBound}
 use Rattle.geometry.proofs.Lent.{drop-further}
 use Rattle.slide.specs.Slide.{workNamed}
 use Rattle.slide.specs.inner.Plain.{plainMark, plainMarks, Checked}
-use Rattle.slide.specs.inner.Room.{noBound, reachAt, room}
+use Rattle.slide.specs.inner.Room.{reachAt, room}
 use Rattle.slide.specs.inner.Table.{rowCells, rowFrom, FilledTo, rowBefore, TableHolds, RowsFrom, TableFrom}
 use Rattle.slide.proofs.FilledRows.{room-same}
 use Rattle.slide.proofs.PlainMarks.{plainAt, label-at, marks-from, marks-end}

@@ -13,8 +13,9 @@ use Rattle.geometry.specs.Dot.{emptyReach}
 use Rattle.geometry.specs.Mark.{Mark}
 use Rattle.geometry.specs.Position.{Side, above, below, sideCode, ownReach, aboveAfter, belowAfter}
 use Rattle.geometry.specs.Sliding.{leftmostEdge, edgesFrom, noneBeyond}
+use Rattle.geometry.specs.inner.Outside.{noBound}
 use Rattle.geometry.proofs.Split.{by-bool, both, and-fst, and-snd, or-cases, clash}
-use Rattle.slide.specs.inner.Room.{noBound, reachAt, reachPast, slideable, ownSide, room}
+use Rattle.slide.specs.inner.Room.{reachAt, reachPast, slideable, ownSide, room}
 use Rattle.slide.specs.inner.Walk.{takesAbove, sideOf, sideBefore, sidesFrom, LabelOn}
 use Rattle.slide.proofs.Slideable.{exchanged}
 use Rattle.slide.proofs.ExactCells.{Inside, cellsOf, room-exact, own-side-exact}

@@ -15,9 +15,10 @@ use Rattle.geometry.specs.Position.{Side, sideCode}
 use Rattle.geometry.specs.Sliding.{edgesFrom}
 use Rattle.geometry.specs.Pass.{written}
 use Rattle.geometry.specs.inner.Place.{placeOf}
+use Rattle.geometry.specs.inner.Outside.{noBound}
 use Rattle.slide.specs.Slide.{workNamed}
 use Rattle.slide.specs.inner.Plain.{plainMarks, Checked}
-use Rattle.slide.specs.inner.Room.{noBound, slideable}
+use Rattle.slide.specs.inner.Room.{slideable}
 use Rattle.slide.specs.inner.Table.{rowCells, rowFrom, RowHolds, TableHolds}
 use Rattle.slide.specs.inner.Walk.{takesAbove, sideOf, sideBefore, sidesFrom, LabelOn, StepReady, fitsPlain}
 use Rattle.slide.proofs.ExactCells.{Inside, cellsOf}

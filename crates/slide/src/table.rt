@@ -2,6 +2,7 @@
 // greatest reach of the other side with which the marks after it can all be placed. A cell holds 0 for none, else one more than that
 // reach's dot. A side reaches as far as its last label and the gap behind it, so the gap is in every reach and in no test.
 use geometry::dot::EMPTY_REACH;
+use geometry::dot::NO_BOUND;
 use geometry::dot::dot_of;
 use geometry::limits::MOST_LENGTH;
 use geometry::numbers::larger;
@@ -12,16 +13,14 @@ ghost use lib.Dec.{ltb, eqb};
 ghost use lib.ListN.{length, getD};
 ghost use Rattle.geometry.specs.Dot.{emptyReach};
 ghost use Rattle.geometry.specs.Pass.{mostGap};
+ghost use Rattle.geometry.specs.inner.Outside.{noBound};
 ghost use Rattle.slide.specs.Slide.{workNamed};
 ghost use Rattle.slide.specs.inner.Plain.{plainMark, plainMarks, Checked};
-ghost use Rattle.slide.specs.inner.Room.{noBound, GoodLabel, slidBy, furthest, ownSide, otherSide};
+ghost use Rattle.slide.specs.inner.Room.{GoodLabel, slidBy, furthest, ownSide, otherSide};
 ghost use Rattle.slide.specs.inner.Table.{rowCells, RowsThere, rowFrom, FilledTo, rowBefore, RowReady, TableFrom};
 
 // Cells of a row: a label slides by 0 to MOST_LENGTH dots.
 pub const ROW_CELLS: usize = MOST_LENGTH as usize + 1;
-
-// The cell where every reach of the other side will do.
-const NO_BOUND: u16 = 65535;
 
 // How far a label slides from its leftmost place on a side with this reach.
 pub fn slid(place: u16, length: u8, reach: u16) -> u16

@@ -1,14 +1,10 @@
 -- What the rest of a strip can still do beside two reaches, and the walk that takes the first position that leaves it possible.
-use Prim.Native.Nat.{ℕ, _<_}
-use mathlib.Core.Path.{_≡_}
-use mathlib.Core.List.{List, [], _∷_}
+use Prim.Native.Nat.{ℕ}
+use mathlib.Core.List.{List, [], _∷_, map}
 use mathlib.Core.Bool.{Bool, true, cond, _&&_, _||_}
 use lib.Dec.{leb}
-use lib.IntN.{ℤ}
-use lib.Signed.{mag}
-use Rattle.geometry.specs.Dot.{dot}
 use Rattle.geometry.specs.Mark.{Mark}
-use Rattle.geometry.specs.Position.{Position, at, above, below, leftward, rightward, code}
+use Rattle.geometry.specs.Position.{Position, at, above, below, leftward, rightward}
 use Rattle.geometry.specs.inner.Machine.{roomFor, nextAbove, nextBelow}
 
 -- The marks can all be placed beside the reaches a and b. That this is about placings (`first-placing-is` in proofs/) rests on two
@@ -33,18 +29,23 @@ firstPassed two three one = cond two (at above leftward) (cond three (at below l
 abbrev pub pick : ℕ → ℕ → ℕ → Mark → List Mark → Position
 pick g a b m ms = firstPassed (leaves g a b m ms (at above leftward)) (leaves g a b m ms (at below leftward)) (leaves g a b m ms (at above rightward))
 
-unfoldable pub walk : ℕ → ℕ → ℕ → List Mark → List Position
-walk g a b [] = []
-walk g a b (m ∷ ms) = let p = pick g a b m ms in p ∷ walk g (nextAbove g a m p) (nextBelow g b m p) ms
+-- a step of the walk: the position taken at a mark, and the two reaches behind it
+pub record Taken : Type 0 where
+  pub position : Position
+  pub reachAbove : ℕ
+  pub reachBelow : ℕ
 
--- the same by what a row leaves: the left ends of the two directions, and what positions 2, 3 and 1 leave to the other side
+abbrev pub takenAt : ℕ → ℕ → ℕ → Mark → Position → Taken
+takenAt g a b m p = record { position = p; reachAbove = nextAbove g a m p; reachBelow = nextBelow g b m p }
+
+unfoldable pub steps : ℕ → ℕ → ℕ → List Mark → List Taken
+steps g a b [] = []
+steps g a b (m ∷ ms) = let t = takenAt g a b m (pick g a b m ms) in t ∷ steps g (t .reachAbove) (t .reachBelow) ms
+
+-- the positions that it takes
+abbrev pub walk : ℕ → ℕ → ℕ → List Mark → List Position
+walk g a b ms = map (λ t. t .position) (steps g a b ms)
+
+-- the position picked, by what a row leaves: the left ends of the two directions, and what positions 2, 3 and 1 leave to the other side
 abbrev pub pickByRow : ℕ → ℕ → ℕ → ℕ → ℕ → ℕ → ℕ → Position
 pickByRow a b left right first second third = firstPassed (leb a left && leb b first) (leb b left && leb a second) (leb a right && leb b third)
-
--- A step of the walk at a mark with this place and length, at a gap, over signed numbers: the position's number and the two reaches after it.
-pub record Stepped (g : ℕ) (above below place : ℤ) (labelLength : ℕ) (p : Position) (position : ℕ) (above′ below′ : ℤ) : Type 0 where
-  pub position-is : position ≡ code p
-  pub above-is : (weight : ℕ) → dot above′ ≡ nextAbove g (dot above) (record { place = dot place; labelLength = labelLength; weight = weight }) p
-  pub below-is : (weight : ℕ) → dot below′ ≡ nextBelow g (dot below) (record { place = dot place; labelLength = labelLength; weight = weight }) p
-  pub above-held : mag above′ < 32768
-  pub below-held : mag below′ < 32768

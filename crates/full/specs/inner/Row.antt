@@ -1,23 +1,16 @@
 -- The kept part layouts of a mark, as dots: for each of its positions the greatest reach of the other side with which all later
 -- marks can still be placed, 0 if there is none and 65,535 if no mark is left.
-use Prim.Native.Nat.{ℕ, _+_, _-_, max}
-use mathlib.Core.Path.{_≡_}
-use mathlib.Core.List.{List, [], _∷_, map}
+use Prim.Native.Nat.{ℕ, _+_, max}
+use mathlib.Core.List.{List, [], _∷_}
 use mathlib.Core.Bool.{cond}
 use lib.Dec.{leb, eqb}
-use lib.IntN.{ℤ, pos}
-use lib.ListN.{getD}
-use Rattle.geometry.specs.Dot.{dot}
+use lib.ListN.{drop}
 use Rattle.geometry.specs.Mark.{Mark}
+use Rattle.geometry.specs.Strip.{Strip, marksOf}
 use Rattle.geometry.specs.Position.{leftward, rightward}
 use Rattle.geometry.specs.Overlap.{leftEnd, rightEnd}
-
--- the dot of a bound that no reach meets, and of one that every reach meets
-abbrev pub noReach : ℕ
-noReach = 0
-
-abbrev pub anyReach : ℕ
-anyReach = 65535
+use Rattle.geometry.specs.inner.At.{markAt}
+use Rattle.geometry.specs.inner.Outside.{noReach, noBound}
 
 -- The greatest reach of the other side beside a side that reaches to t, from the next mark's two left ends and from what its label
 -- to the left and its label to the right leave to their other side: on this side they leave that to the other one, on the other
@@ -28,7 +21,7 @@ candidates t left right keptLeft keptRight =
     (max (cond (leb t keptLeft) left noReach) (cond (leb t keptRight) right noReach))
 
 unfoldable pub greatest : ℕ → ℕ → List Mark → ℕ
-greatest g t [] = anyReach
+greatest g t [] = noBound
 greatest g t (m ∷ ms) =
     candidates t (leftEnd m leftward) (leftEnd m rightward) (greatest g (rightEnd m leftward + g) ms) (greatest g (rightEnd m rightward + g) ms)
 
@@ -40,6 +33,10 @@ alike keptLeft keptRight = keptLeft ∷ keptLeft ∷ keptRight ∷ keptRight ∷
 abbrev pub rowOf : ℕ → Mark → List Mark → List ℕ
 rowOf g m ms = alike (greatest g (rightEnd m leftward + g) ms) (greatest g (rightEnd m rightward + g) ms)
 
+-- those of the mark with index j of a strip
+abbrev pub rowIn : ℕ → Strip → ℕ → List ℕ
+rowIn g s j = rowOf g (markAt s j) (drop (j + 1) (marksOf s))
+
 -- 1 if a part layout is kept
 abbrev pub keptOne : ℕ → ℕ
 keptOne x = cond (eqb x noReach) 0 1
@@ -48,20 +45,3 @@ keptOne x = cond (eqb x noReach) 0 1
 unfoldable pub countOf : List ℕ → ℕ
 countOf [] = 0
 countOf (x ∷ xs) = keptOne x + countOf xs
-
--- the four elements of an array of four
-abbrev pub four : List ℤ → List ℤ
-four xs = getD xs 0 (pos 0) ∷ getD xs 1 (pos 0) ∷ getD xs 2 (pos 0) ∷ getD xs 3 (pos 0) ∷ []
-
--- what the next mark, at y with length k and with this row, leaves beside a side that reaches to t
-abbrev pub beside : ℕ → ℕ → ℕ → List ℤ → ℕ
-beside t y k next = candidates t (y - k) y (dot (getD next 0 (pos 0))) (dot (getD next 2 (pos 0)))
-
--- the row of a mark at x with length l from the row of the next mark, at y with length k, at a gap of g dots
-abbrev pub rowBefore : ℕ → ℕ → ℕ → ℕ → ℕ → List ℤ → List ℕ
-rowBefore g x l y k next = alike (beside (x + g) y k next) (beside (x + l + g) y k next)
-
--- kept part layouts with these reaches, as dots
-pub record Counted (row : List ℕ) (reaches : List ℤ) (count : ℕ) : Type 0 where
-  pub reaches-are : map dot (four reaches) ≡ row
-  pub count-is : count ≡ countOf row

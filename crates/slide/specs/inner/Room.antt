@@ -6,10 +6,7 @@ use lib.Dec.{leb, ltb}
 use Rattle.geometry.specs.Dot.{dot}
 use Rattle.geometry.specs.Mark.{Mark, mostPlace, mostLength}
 use Rattle.geometry.specs.Sliding.{leftmostEdge}
-
--- a bound that every reach meets: more than any dot that the label of an accepted mark, with the widest gap behind it, may cover
-abbrev pub noBound : ℕ
-noBound = 65535
+use Rattle.geometry.specs.inner.Outside.{noBound}
 
 -- the label of an accepted mark: a length in its range, dots enough to the left of the place, and a place in its range, so that there are
 -- enough to the right for the label and the widest gap

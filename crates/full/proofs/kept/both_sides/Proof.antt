@@ -27,7 +27,13 @@ returns c =
     let right = back (start .fits .right) in
     let left-counted = rw left at (c .before .one-if-kept .ensures .0) in
     let right-counted = rw right at (c .one-if-kept2 .ensures .0) in
-    record { reaches-are = rw (left, right) refl; count-is = rw (left-counted, right-counted) (omega arith) }
+    let left-held = start .pre .0 in
+    let right-held = start .pre .1 in
+    record {
+      reaches-are = rw (left, right) refl;
+      reaches-held = rw (left, right) (left-held, (left-held, (right-held, (right-held, tt))));
+      count-is = rw (left-counted, right-counted) (omega arith);
+    }
 
 pub both-sides-spec : {M : Type 1} → statement M
 both-sides-spec = tie.close (tie.spec one-if-kept-requires one-if-kept-requires-2 add-t6 mul-t7 returns)

@@ -1,10 +1,11 @@
 -- `full::kept::greatest` meets its contract: each call says what it gives, a number that went through 16 bits is itself, and the
 -- candidates are those of the first test that is passed.
-use mathlib.Core.Path.{sym}
+use mathlib.Core.Path.{sym, _∙_}
 use borrow.Author.Needs.{needs}
 use Rattle.geometry.specs.Dot.{dot}
 use Rattle.geometry.proofs.Dots.{back, fetched}
 use Rattle.full.proofs.Candidates.{candidates-by-test}
+use Rattle.full.proofs.SixteenBits.{greatest-found}
 use Rattle.full.proofs.kept.greatest.Statement.{statement}
 use Rattle.full.proofs.kept.greatest.Tie as tie
 
@@ -48,9 +49,8 @@ returns c =
     let start = either .before in
     let args = start .args in
     let held = start .fits in
-    rw (
-      fetched (c .larger2 .result) (c .larger2 .ok),
-      c .larger2 .ensures,
+    let by-test = candidates-by-test (dot (args .reach)) (dot (args .left)) (dot (args .place)) (dot (args .kept-left)) (dot (args .kept-right)) in
+    let is = rw (
       fetched (here .if-passed2 .result) (here .if-passed2 .ok),
       fetched (there .if-passed4 .result) (there .if-passed4 .ok),
       here .if-passed2 .ensures,
@@ -71,7 +71,8 @@ returns c =
       back (held .kept-left),
       back (held .kept-right),
     )
-    (sym (candidates-by-test (dot (args .reach)) (dot (args .left)) (dot (args .place)) (dot (args .kept-left)) (dot (args .kept-right)) (start .pre)))
+    at (c .larger2 .ensures) in
+    rw (fetched (c .larger2 .result) (c .larger2 .ok)) (greatest-found (start .pre) (is ∙ sym (by-test (start .pre .in-order))))
 
 pub greatest-spec : {M : Type 1} → statement M
 greatest-spec =

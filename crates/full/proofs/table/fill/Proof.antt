@@ -1,8 +1,6 @@
 -- `full::table::fill` meets its contract: after each turn the rows from the current mark on are right, and `next` is the current
 -- mark's. The measure is the current mark's index.
 use mathlib.Core.Path.{_≡_, refl, _∙_, ap}
-use mathlib.Core.Bool.{true}
-use mathlib.Core.List.{[], _∷_}
 use Prim.Native.Nat.{ℕ, _-_, _*_, _<_}
 use native.Mathlib.Omega.{arith}
 use lib.IntN.{ℤ, pos}
@@ -10,13 +8,12 @@ use lib.ListN.{length, getD, drop}
 use lib.Seq.{length-sets}
 use mir.Syntax.{w16}
 use mir.Val.{toZ, ofZ}
-use Rattle.geometry.specs.Mark.{placeInRange}
 use Rattle.geometry.proofs.Dots.{fetched}
-use Rattle.geometry.proofs.Accepted.{every-at}
 use Rattle.full.specs.Full.{workNamed}
-use Rattle.full.specs.inner.Row.{Counted}
+use Rattle.full.specs.inner.OneMark.{Formed, RowHeld, Counted}
+use Rattle.full.proofs.EndsHeld.{mark-formed}
 use Rattle.full.proofs.Rows.{drop-sets}
-use Rattle.full.proofs.Filling.{Filling, before, filling-last, filling-more, filling-stops, filling-done}
+use Rattle.full.proofs.Filling.{unbounded, unbounded-held, Filling, before, filling-last, filling-more, filling-stops, filling-done}
 use Rattle.full.proofs.table.fill.Statement.{statement}
 use Rattle.full.proofs.table.fill.Tie as tie
 
@@ -35,7 +32,6 @@ entered s = let chosen = s .before .before in chosen .before .before .before
 
 rest-kept : (s : Stored) → drop workNamed (s .before .store .last .0) ≡ drop workNamed (entered s .args .work .now)
 rest-kept s =
-    let unbounded = pos 32767 ∷ pos 32767 ∷ pos 32767 ∷ pos 32767 ∷ [] in
     let last = length (entered s .args .places .now) - 1 in
     let few = entered s .pre .few in
     ap (drop workNamed) (s .before .store .ensures) ∙ drop-sets unbounded (entered s .args .work .now) (4 * last) workNamed (omega arith)
@@ -56,8 +52,14 @@ start p = entered (turn p .before)
 abbrev placeAt : Placed → ℕ → ℤ
 placeAt p k = getD (start p .args .places .now) k (pos 0)
 
-in-range : (p : Placed) (k : ℕ) → k < length (start p .args .places .now) → placeInRange (placeAt p k) ≡ true
-in-range p k h = every-at placeInRange (start p .args .places .now) (pos 0) k (turn p .loop .inv .ready .places-good) h
+-- each mark is in its ranges, and the row in hand holds the table's numbers
+formed : (p : Placed) (k : ℕ) → k < length (start p .args .places .now)
+    → Formed (placeAt p k) (getD (start p .args .lengths .now) k 0) (start p .args .gap)
+formed p k few = mark-formed _ _ _ _ (turn p .loop .inv .ready) k few
+
+row-held : (p : Placed) → RowHeld (turn p .loop .next .reaches)
+row-held p =
+    let ready = turn p .loop .inv .ready in turn p .loop .inv .counted (start p .args .lengths .now) (ready .same-lengths) .reaches-held
 
 before-read : (p : Placed) → toZ w16 (ofZ w16 (placeAt p (turn p .loop .i - 1))) ≡ placeAt p (turn p .loop .i - 1)
 before-read p = fetched (placeAt p (turn p .loop .i - 1)) (p .kept-before-arg .given)
@@ -92,6 +94,7 @@ returns c =
       first-count = λ some. absurd (omega arith);
       empty-count = λ empty. refl;
       rows = λ some ws same j low high. absurd (omega arith);
+      held = λ some j q few. absurd (omega arith);
       rest-kept = refl;
     }
 
@@ -99,10 +102,10 @@ sub-i : tie.Need-sub-i Inv-loop μ-loop
 sub-i c = omega arith
 
 store-requires : tie.Need-store-requires Inv-loop μ-loop
-store-requires c κs = omega arith
+store-requires c κs = (omega arith, omega arith, unbounded-held)
 
 loop-holds : tie.Need-loop-holds Inv-loop μ-loop
-loop-holds c = filling-last _ _ _ _ _ _ _ (entered c .pre) (omega arith) refl (c .before .store .ensures)
+loop-holds c = filling-last _ _ _ _ _ _ _ (entered c .pre) (omega arith) refl unbounded-held (c .before .store .ensures)
 
 sub-kept-before : tie.Need-sub-kept-before Inv-loop μ-loop
 sub-kept-before c = omega arith
@@ -133,7 +136,7 @@ kept-before-requires c κs =
     let p = placed (c .before) in
     let i = turn p .loop .i in
     let inside = turn p .loop .inv .inside in
-    (rw (before-read p) (in-range p (i - 1) (omega arith)), rw (here-read (c .before)) (in-range p i inside), turn p .loop .inv .ready .gap-narrow)
+    (rw (before-read p) (formed p (i - 1) (omega arith)), rw (here-read (c .before)) (formed p i inside), row-held p)
 
 same-length : tie.Need-same-length Inv-loop μ-loop
 same-length c =
@@ -149,7 +152,7 @@ sub-i-2 : tie.Need-sub-i-2 Inv-loop μ-loop
 sub-i-2 c = omega arith
 
 store-requires-2 : tie.Need-store-requires-2 Inv-loop μ-loop
-store-requires-2 c κs = omega arith
+store-requires-2 c κs = (omega arith, omega arith, c .before .before .before .kept-before .ensures .reaches-held)
 
 loop-less : tie.Need-loop-less Inv-loop μ-loop
 loop-less c = omega arith

@@ -1,16 +1,14 @@
 -- `full::walk::walk` meets its contract: the numbers written so far and the walk from the current mark on are the whole walk.
 use mathlib.Core.Path.{_≡_, refl}
-use mathlib.Core.Bool.{true}
 use Prim.Native.Nat.{ℕ, _-_, _+_, _*_}
 use native.Mathlib.Omega.{arith}
 use lib.IntN.{ℤ, pos}
 use lib.ListN.{length, getD}
 use mir.Syntax.{w16}
 use mir.Val.{toZ, ofZ}
-use Rattle.geometry.specs.Mark.{placeInRange}
-use Rattle.geometry.proofs.Dots.{fetched, range-dots}
-use Rattle.geometry.proofs.Accepted.{every-at}
-use Rattle.full.proofs.Walking.{Walking, walking-start, walking-more, walking-done}
+use Rattle.geometry.proofs.Dots.{fetched}
+use Rattle.full.proofs.EndsHeld.{carried-back}
+use Rattle.full.proofs.Walking.{Walking, walking-start, step-ready, walking-more, walking-done}
 use Rattle.full.proofs.walk.walk.Statement.{statement}
 use Rattle.full.proofs.walk.walk.Tie as tie
 
@@ -36,20 +34,37 @@ placeAt p = getD (start p .args .places .now) (turn p .loop .i) (pos 0)
 abbrev cellAt : Placed → ℕ → ℤ
 cellAt p n = getD (start p .args .work .now) n (pos 0)
 
-in-range : (p : Placed) → placeInRange (placeAt p) ≡ true
-in-range p =
-    every-at placeInRange (start p .args .places .now) (pos 0) (turn p .loop .i) (turn p .loop .inv .ready .ready .places-good)
-    (p .before .loop-test .taken)
+-- the reaches and the place as they were read
+above-read : (p : Placed) → toZ w16 (ofZ w16 (turn p .loop .at .above)) ≡ turn p .loop .at .above
+above-read p = carried-back (turn p .loop .at .above) (turn p .loop .inv .above-held)
+
+below-read : (p : Placed) → toZ w16 (ofZ w16 (turn p .loop .at .below)) ≡ turn p .loop .at .below
+below-read p = carried-back (turn p .loop .at .below) (turn p .loop .inv .below-held)
 
 place-read : (p : Placed) → toZ w16 (ofZ w16 (placeAt p)) ≡ placeAt p
 place-read p = fetched (placeAt p) (p .step-arg .given)
 
--- and the row
-abbrev placed : tie.After-step-arg4 Inv-loop μ-loop → Placed
+-- and the numbers of the row
+abbrev Row : Type 0
+Row = tie.After-step-arg4 Inv-loop μ-loop
+
+abbrev placed : Row → Placed
 placed r = let row = r .before .before in row .before .before
 
+abbrev numberAt : Row → ℕ → ℤ
+numberAt r q = cellAt (placed r) (4 * turn (placed r) .loop .i + q)
+
+first-read : (r : Row) → let first = cellAt (placed r) (4 * turn (placed r) .loop .i) in toZ w16 (ofZ w16 first) ≡ first
+first-read r = fetched (cellAt (placed r) (4 * turn (placed r) .loop .i)) (r .before .before .step-arg2 .given)
+
+second-read : (r : Row) → toZ w16 (ofZ w16 (numberAt r 1)) ≡ numberAt r 1
+second-read r = fetched (numberAt r 1) (r .before .step-arg3 .given)
+
+third-read : (r : Row) → toZ w16 (ofZ w16 (numberAt r 2)) ≡ numberAt r 2
+third-read r = fetched (numberAt r 2) (r .step-arg4 .given)
+
 loop-holds : tie.Need-loop-holds Inv-loop μ-loop
-loop-holds c = walking-start _ _ _ _ _ _ _ refl refl (omega arith) (omega arith) (c .before .before .pre)
+loop-holds c = walking-start _ _ _ _ _ _ _ refl refl (c .before .before .pre)
 
 mul-row : tie.Need-mul-row Inv-loop μ-loop
 mul-row c = omega arith
@@ -88,7 +103,11 @@ shared-slice-copy-out-step-4 : tie.Need-shared-slice-copy-out-step-4 Inv-loop μ
 shared-slice-copy-out-step-4 c = omega arith
 
 step-requires : tie.Need-step-requires Inv-loop μ-loop
-step-requires c κs = let p = placed (c .before .before) in (rw (place-read p) (in-range p), turn p .loop .inv .ready .ready .gap-narrow)
+step-requires c κs =
+    let r = c .before .before in
+    let p = placed r in
+    rw (above-read p, below-read p, place-read p, first-read r, second-read r, third-read r)
+    (step-ready _ _ _ _ _ _ _ _ _ (turn p .loop .inv) (p .before .loop-test .taken))
 
 slice-write-positions : tie.Need-slice-write-positions Inv-loop μ-loop
 slice-write-positions c = omega arith
@@ -101,21 +120,11 @@ loop-less c = omega arith
 
 loop-again : tie.Need-loop-again Inv-loop μ-loop
 loop-again c =
-    let row = c .before .before .before in
-    let p = placed row in
-    let w = turn p .loop .inv in
-    let first = 4 * turn p .loop .i in
-    walking-more _ _ _ _ _ _ _ _ _ w (p .before .loop-test .taken) (c .step .result .position) (c .step .result .above) (c .step .result .below)
-    (rw (
-      fetched (turn p .loop .at .above) (w .above-held),
-      fetched (turn p .loop .at .below) (w .below-held),
-      place-read p,
-      fetched (cellAt p first) (row .before .before .step-arg2 .given),
-      fetched (cellAt p (first + 1)) (row .before .step-arg3 .given),
-      fetched (cellAt p (first + 2)) (row .step-arg4 .given),
-    )
-    at (c .step .ensures))
-    (omega (arith, range-dots (placeAt p) (in-range p)))
+    let r = c .before .before .before in
+    let p = placed r in
+    let taken = c .step .result in
+    walking-more _ _ _ _ _ _ _ _ _ (turn p .loop .inv) (p .before .loop-test .taken) (taken .position) (taken .above) (taken .below)
+    (rw (above-read p, below-read p, place-read p, first-read r, second-read r, third-read r) at (c .step .ensures))
 
 same-length : tie.Need-same-length Inv-loop μ-loop
 same-length c = c .before .loop .inv .long

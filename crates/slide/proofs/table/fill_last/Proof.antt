@@ -2,7 +2,7 @@
 use mathlib.Core.Path.{refl}
 use Prim.Native.Nat.{_+_, _≤_, _-_}
 use native.Mathlib.Omega.{arith}
-use Rattle.slide.specs.inner.Room.{noBound}
+use Rattle.geometry.specs.inner.Outside.{noBound}
 use Rattle.slide.specs.inner.Table.{FilledTo}
 use Rattle.slide.proofs.FilledRows.{filled-none, filled-more, filled-whole}
 use Rattle.slide.proofs.table.fill_last.Statement.{statement}
