@@ -19,13 +19,14 @@ use Rattle.geometry.specs.Placing.{firstPlacing}
 use Rattle.geometry.specs.Refusal.{Verdict, accepted, refused, numberOf, refusalNumber, noPlacing}
 use Rattle.geometry.specs.Pass.{cleared, workAfter}
 use Rattle.geometry.specs.inner.At.{markAt}
+use Rattle.geometry.specs.inner.Each.{Each}
 use Rattle.geometry.proofs.Split.{lt-or-ge}
 use Rattle.geometry.proofs.Lent.{cleared-again}
 use Rattle.geometry.proofs.Verdicts.{zero-accepted}
 use Rattle.geometry.proofs.Accepted.{Accepted, PassAccepted, pass-accepted, accepted-rising, length-marks, marks-from}
 use Rattle.full.specs.Full.{workNamed, FullLent, fullChecks, FullContract, fullVerdict, positionsAfter}
 use Rattle.full.specs.inner.Rest.{can, walk}
-use Rattle.full.specs.inner.SixteenBits.{Each, EndsHeld, Narrow}
+use Rattle.full.specs.inner.SixteenBits.{EndsHeld, Narrow}
 use Rattle.full.specs.inner.Table.{Ready, Filled, WalkReady, Walked}
 use Rattle.full.proofs.EndsHeld.{marks-held}
 use Rattle.full.proofs.First.{first-placing-is}

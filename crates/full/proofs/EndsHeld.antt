@@ -3,31 +3,26 @@
 use mathlib.Core.Path.{_≡_}
 use mathlib.Core.Bool.{true}
 use mathlib.Core.List.{List, [], _∷_}
-use Prim.Native.Nat.{ℕ, zero, suc, _+_, _≤_, _<_}
+use Prim.Native.Nat.{ℕ, _+_, _≤_, _<_}
 use native.Mathlib.Omega.{arith}
-use lib.Dec.{leb}
 use lib.IntN.{ℤ, pos, negsuc}
 use lib.Signed.{mag}
-use lib.ListN.{length, getD, drop}
+use lib.ListN.{length, getD}
 use mir.Syntax.{w16}
 use mir.Val.{toZ, ofZ}
-use borrow.Author.Tests.{leb-true}
 use Rattle.geometry.specs.Dot.{dot}
 use Rattle.geometry.specs.Lists.{every}
 use Rattle.geometry.specs.Mark.{Mark, placeInRange, lengthInRange, mostLength}
 use Rattle.geometry.specs.Strip.{Strip, marksOfLists, marksOf}
 use Rattle.geometry.specs.Position.{Direction, leftward, rightward}
 use Rattle.geometry.specs.Overlap.{leftEnd, rightEnd}
-use Rattle.geometry.proofs.Split.{and-snd}
+use Rattle.geometry.specs.inner.Each.{Each}
+use Rattle.geometry.proofs.Split.{one-to}
 use Rattle.geometry.proofs.Dots.{fetched, InDots, range-dots}
 use Rattle.geometry.proofs.Accepted.{every-at, first-good, rest-good}
-use Rattle.full.specs.inner.SixteenBits.{LeftEdge, RightEnd, Reach, Carried, isReach, isEmpty, Each, EndsHeld, Narrow}
+use Rattle.full.specs.inner.SixteenBits.{LeftEdge, RightEnd, Reach, Carried, isReach, isEmpty, EndsHeld, Narrow}
 use Rattle.full.specs.inner.OneMark.{Formed}
 use Rattle.full.specs.inner.Table.{Ready}
-
--- a length in its range is at most 240
-pub short-label : (l : ℕ) → lengthInRange l ≡ true → l ≤ mostLength
-short-label l e = leb-true l mostLength (and-snd (leb 1 l) (leb l mostLength) e)
 
 -- the ends of the label of a mark in its ranges, at a gap
 module _ (z : ℤ) (l g weight : ℕ) (formed : Formed z l g) where
@@ -38,7 +33,7 @@ module _ (z : ℤ) (l g weight : ℕ) (formed : Formed z l g) where
   placed = range-dots z (formed .place-good)
 
   short : l ≤ mostLength
-  short = short-label l (formed .length-good)
+  short = one-to mostLength l (formed .length-good) .1
 
   left-held : (d : Direction) → LeftEdge (leftEnd mark d)
   left-held leftward = omega (arith, placed, short)
@@ -71,12 +66,6 @@ pub marks-held : (g : ℕ) (s : Strip) → Narrow g → every placeInRange (s .p
     → Each (EndsHeld g) (marksOf s)
 marks-held g s h p q = lists-held g h (s .places) (s .lengths) (s .weights) p q
 
--- and of those from an index on
-pub held-drop : (g i : ℕ) (ms : List Mark) → Each (EndsHeld g) ms → Each (EndsHeld g) (drop i ms)
-held-drop g zero ms h = h
-held-drop g (suc i) [] h = tt
-held-drop g (suc i) (m ∷ ms) h = held-drop g i ms (h .1)
-
 -- a mark of lists that are checked is in its ranges
 pub mark-formed : (places : List ℤ) (lengths : List ℕ) (g : ℕ) (work : List ℤ) → Ready places lengths g work → (k : ℕ) → k < length places
     → Formed (getD places k (pos 0)) (getD lengths k 0) g
@@ -89,18 +78,15 @@ mark-formed places lengths g work ready k few =
     }
 
 -- 16 bits hold a number whose dot is a reach's
-reach-mag : (z : ℤ) → Reach (dot z) → mag z < 32768
-reach-mag (pos n) h = omega arith
-reach-mag (negsuc n) h = omega arith
-
 carried-mag : (z : ℤ) → Carried (dot z) → mag z < 32768
-carried-mag z (isReach h) = reach-mag z h
+carried-mag (pos n) (isReach h) = omega arith
+carried-mag (negsuc n) (isReach h) = omega arith
 carried-mag (pos n) (isEmpty e) = omega arith
 carried-mag (negsuc n) (isEmpty e) = omega arith
 
 -- and give it back
-pub reach-back : (z : ℤ) → Reach (dot z) → toZ w16 (ofZ w16 z) ≡ z
-reach-back z h = fetched z (reach-mag z h)
-
 pub carried-back : (z : ℤ) → Carried (dot z) → toZ w16 (ofZ w16 z) ≡ z
-carried-back z h = fetched z (carried-mag z h)
+carried-back z c = fetched z (carried-mag z c)
+
+pub reach-back : (z : ℤ) → Reach (dot z) → toZ w16 (ofZ w16 z) ≡ z
+reach-back z h = carried-back z (isReach h)

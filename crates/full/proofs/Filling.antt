@@ -11,13 +11,14 @@ use Rattle.geometry.specs.Dot.{dot}
 use Rattle.geometry.specs.Strip.{strip, marksOf}
 use Rattle.geometry.specs.inner.At.{markAt}
 use Rattle.geometry.specs.inner.Outside.{noBound}
+use Rattle.geometry.proofs.Each.{each-at, each-drop}
 use Rattle.full.specs.Full.{workNamed}
 use Rattle.full.specs.inner.Row.{alike, countOf, rowIn}
-use Rattle.full.specs.inner.SixteenBits.{Stored, isUnbounded}
+use Rattle.full.specs.inner.SixteenBits.{Stored, isUnbounded, EndsHeld}
 use Rattle.full.specs.inner.OneMark.{four, RowHeld, rowBefore, Counted}
 use Rattle.full.specs.inner.Table.{AnyWeights, RowsFrom, TableHeld, Ready, Filled}
-use Rattle.full.proofs.EndsHeld.{marks-held, held-drop}
-use Rattle.full.proofs.SixteenBits.{each-at, row-stored}
+use Rattle.full.proofs.EndsHeld.{marks-held}
+use Rattle.full.proofs.SixteenBits.{row-stored}
 use Rattle.full.proofs.Rows.{last-row, row-before, none-kept-first, drop-sets, one-more-row, row-number}
 
 -- the row of the last mark, as signed numbers, holds the table's: no bound, four times
@@ -117,7 +118,7 @@ module _ (places : List ℤ) (lengths : List ℕ) (g : ℕ) where
   table-held : (entry work : List ℤ) → Ready places lengths g entry → AnyWeights places lengths (RowsFrom g 0 work) → TableHeld work (length places)
   table-held entry work ready rows j q few h =
       let s = strip places lengths lengths in
-      let behind = held-drop g (j + 1) (marksOf s) (marks-held g s (ready .gap-narrow) (ready .places-good) (ready .lengths-good)) in
+      let behind = each-drop (EndsHeld g) (j + 1) (marksOf s) (marks-held g s (ready .gap-narrow) (ready .places-good) (ready .lengths-good)) in
       let row = row-stored g (markAt s j) (drop (j + 1) (marksOf s)) behind in
       let number = row-number work j q (rowIn g s j) (rows lengths (ready .same-lengths) j (omega arith) few) h in
       subst Stored (sym number) (each-at Stored (rowIn g s j) (dot (pos 0)) q row h)

@@ -11,10 +11,11 @@ use Rattle.geometry.specs.Dot.{emptyReach}
 use Rattle.geometry.specs.Mark.{Mark}
 use Rattle.geometry.specs.Position.{above, below, Direction, leftward, rightward}
 use Rattle.geometry.specs.Overlap.{leftEnd, rightEnd}
+use Rattle.geometry.specs.inner.Each.{Each}
 use Rattle.geometry.proofs.Split.{by-leb}
 use Rattle.full.specs.inner.Rest.{can}
 use Rattle.full.specs.inner.Row.{greatest, rowOf, keptOne, countOf}
-use Rattle.full.specs.inner.SixteenBits.{Carried, isEmpty, Each, EndsHeld}
+use Rattle.full.specs.inner.SixteenBits.{Carried, isEmpty, EndsHeld}
 use Rattle.full.proofs.RowPicks.{leaves-by-row}
 
 -- a kept part layout is one that a side without labels meets

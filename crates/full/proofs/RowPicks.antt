@@ -8,9 +8,10 @@ use lib.Dec.{leb}
 use Rattle.geometry.specs.Mark.{Mark}
 use Rattle.geometry.specs.Position.{Side, above, below, Direction, leftward, rightward, at, opposite, ownReach}
 use Rattle.geometry.specs.Overlap.{leftEnd, rightEnd}
+use Rattle.geometry.specs.inner.Each.{Each}
 use Rattle.full.specs.inner.Rest.{leaves, pick, pickByRow}
 use Rattle.full.specs.inner.Row.{greatest}
-use Rattle.full.specs.inner.SixteenBits.{Carried, isReach, Each, EndsHeld}
+use Rattle.full.specs.inner.SixteenBits.{Carried, isReach, EndsHeld}
 use Rattle.full.proofs.Within.{can-mirror, can-within}
 
 module _ (g a b : ℕ) (m : Mark) (rest : List Mark) (ca : Carried a) (cb : Carried b) (held : Each (EndsHeld g) (m ∷ rest)) where

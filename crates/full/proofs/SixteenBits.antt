@@ -5,11 +5,11 @@ use mathlib.Core.Path.{_≡_, refl, sym, subst}
 use mathlib.Core.Bool.{Bool, true, false, cond}
 use mathlib.Core.Logic.{⊎-elim}
 use mathlib.Core.List.{List, [], _∷_}
-use Prim.Native.Nat.{ℕ, zero, suc, _+_, _≤_, _<_, max}
+use Prim.Native.Nat.{ℕ, _+_, _≤_, _<_, max}
 use native.Mathlib.Omega.{arith}
 use lib.Dec.{leb}
 use lib.IntN.{ℤ}
-use lib.ListN.{length, getD, drop}
+use lib.ListN.{drop}
 use Rattle.geometry.specs.Dot.{dot, emptyReach}
 use Rattle.geometry.specs.Mark.{Mark}
 use Rattle.geometry.specs.Strip.{marksOf, mostMarks}
@@ -18,20 +18,16 @@ use Rattle.geometry.specs.Overlap.{rightEnd}
 use Rattle.geometry.specs.inner.At.{markAt}
 use Rattle.geometry.specs.inner.Machine.{nextAbove, nextBelow}
 use Rattle.geometry.specs.inner.Outside.{noReach}
+use Rattle.geometry.specs.inner.Each.{Each}
 use Rattle.geometry.proofs.Split.{lt-or-ge}
+use Rattle.geometry.proofs.Each.{each-drop}
 use Rattle.geometry.proofs.Accepted.{entry-accepted}
 use Rattle.full.specs.inner.Row.{candidates, greatest, rowOf}
 use Rattle.full.specs.inner.Rest.{pick, steps}
-use Rattle.full.specs.inner.SixteenBits.{LeftEdge, Stored, isEdge, isNone, isUnbounded, Carried, isReach, isEmpty, Each, EndsHeld}
+use Rattle.full.specs.inner.SixteenBits.{LeftEdge, Stored, isEdge, isNone, isUnbounded, Carried, isReach, isEmpty, EndsHeld}
 use Rattle.full.specs.inner.SixteenBits.{Number, isLeftEdge, isRightEnd, isStored, isCarried, Between, leastSigned, mostSigned, SixteenBits}
 use Rattle.full.specs.inner.OneMark.{GreatestReady, GreatestFound}
-use Rattle.full.proofs.EndsHeld.{marks-held, held-drop}
-
--- what is said of each element of a list is said of the one at an index
-pub each-at : {A : Type 0} (P : A → Type 0) (xs : List A) (d : A) (i : ℕ) → Each P xs → i < length xs → P (getD xs i d)
-each-at P [] d i h k = absurd (omega arith)
-each-at P (x ∷ xs) d zero h k = h .0
-each-at P (x ∷ xs) d (suc i) h k = each-at P xs d i (h .1) (omega arith)
+use Rattle.full.proofs.EndsHeld.{marks-held}
 
 -- of two numbers of the table the greater is one, and so is one of them or none, as a test says
 stored-max : (x y : ℕ) → Stored x → Stored y → Stored (max x y)
@@ -92,7 +88,7 @@ stored-bits d (isEdge h) = omega arith
 stored-bits d (isNone e) = omega arith
 stored-bits d (isUnbounded e) = omega arith
 
-carried-bits : (d : ℕ) → Carried d → Between leastSigned mostSigned d
+pub carried-bits : (d : ℕ) → Carried d → Between leastSigned mostSigned d
 carried-bits d (isReach h) = omega arith
 carried-bits d (isEmpty e) = omega arith
 
@@ -111,7 +107,7 @@ sixteen-bits =
           let ends = marks-held g s narrow (a .places-good) (a .lengths-good) in
           record {
             ends = ends;
-            table = λ j here. row-stored g (markAt s j) (drop (j + 1) (marksOf s)) (held-drop g (j + 1) (marksOf s) ends);
+            table = λ j here. row-stored g (markAt s j) (drop (j + 1) (marksOf s)) (each-drop (EndsHeld g) (j + 1) (marksOf s) ends);
             walk = walk-carried g emptyReach emptyReach (marksOf s) ends (isEmpty refl) (isEmpty refl);
           };
       none-leaves = number-bits;

@@ -13,14 +13,16 @@ use Rattle.geometry.specs.Mark.{Mark}
 use Rattle.geometry.specs.Strip.{Strip, strip, marksOf}
 use Rattle.geometry.specs.Position.{Position, code}
 use Rattle.geometry.specs.inner.At.{markAt}
+use Rattle.geometry.specs.inner.Each.{Each}
 use Rattle.geometry.proofs.Lent.{take-more, drop-more, written-whole}
+use Rattle.geometry.proofs.Each.{each-drop}
 use Rattle.geometry.proofs.Accepted.{length-marks, marks-from}
 use Rattle.full.specs.inner.Rest.{pick, steps, walk, pickByRow}
 use Rattle.full.specs.inner.Row.{rowOf}
-use Rattle.full.specs.inner.SixteenBits.{Carried, isEmpty, Each, EndsHeld}
+use Rattle.full.specs.inner.SixteenBits.{Carried, isEmpty, EndsHeld}
 use Rattle.full.specs.inner.OneMark.{StepReady, Stepped}
 use Rattle.full.specs.inner.Table.{AnyWeights, rowAt, WalkReady, Walked}
-use Rattle.full.proofs.EndsHeld.{marks-held, held-drop, mark-formed}
+use Rattle.full.proofs.EndsHeld.{marks-held, mark-formed}
 use Rattle.full.proofs.Rows.{row-number}
 use Rattle.full.proofs.RowPicks.{row-picks}
 
@@ -99,7 +101,7 @@ module _ (places : List ℤ) (lengths : List ℕ) (g : ℕ) (work : List ℤ) (e
         held-here =
             let good = w .ready .ready in
             subst (Each (EndsHeld g)) from-here
-            (held-drop g i (marksOf whole) (marks-held g whole (good .gap-narrow) (good .places-good) (good .lengths-good)))
+            (each-drop (EndsHeld g) i (marksOf whole) (marks-held g whole (good .gap-narrow) (good .places-good) (good .lengths-good)))
 
         -- the row in the work area is the mark's, so it picks what the definition picks
         taken-is : taken ≡ pick g (dot above) (dot below) (markAt whole i) behind

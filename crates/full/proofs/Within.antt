@@ -14,10 +14,12 @@ use Rattle.geometry.specs.Mark.{Mark}
 use Rattle.geometry.specs.Position.{leftward, rightward}
 use Rattle.geometry.specs.Overlap.{leftEnd, rightEnd}
 use Rattle.geometry.specs.inner.Outside.{noReach, noBound}
+use Rattle.geometry.specs.inner.Each.{Each}
 use Rattle.geometry.proofs.Split.{leb-max}
 use Rattle.full.specs.inner.Rest.{can}
 use Rattle.full.specs.inner.Row.{candidates, greatest}
-use Rattle.full.specs.inner.SixteenBits.{Carried, isReach, isEmpty, Each, EndsHeld}
+use Rattle.full.specs.inner.SixteenBits.{Carried, isReach, isEmpty, EndsHeld}
+use Rattle.full.proofs.SixteenBits.{carried-bits}
 
 -- of four tests in two pairs each pair may be exchanged
 swap-sides : (x y z w : Bool) → (x || (y || (z || w))) ≡ (y || (x || (w || z)))
@@ -68,19 +70,15 @@ within-candidates o t left right kl kr h =
     )
     (regroup (leb t left && leb o kl) (leb o left && leb t kl) (leb t right && leb o kr) (leb o right && leb t kr))
 
--- a reach of the walk is at least that of a side without labels, and within no bound
+-- a reach of the walk is at least that of a side without labels
 carried-some : (t : ℕ) → Carried t → emptyReach ≤ t
 carried-some t (isReach h) = omega arith
 carried-some t (isEmpty e) = omega arith
 
-carried-bounded : (t : ℕ) → Carried t → t ≤ noBound
-carried-bounded t (isReach h) = omega arith
-carried-bounded t (isEmpty e) = omega arith
-
 -- The theorem, by induction on the marks.
 pub can-within : (g t o : ℕ) (ms : List Mark) → Carried t → Carried o → Each (EndsHeld g) ms → can g t o ms ≡ leb o (greatest g t ms)
 unfolding can greatest
-can-within g t o [] ct co h = sym (le-leb o noBound (carried-bounded o co))
+can-within g t o [] ct co h = sym (le-leb o noBound (carried-bits o co .not-more))
 can-within g t o (m ∷ ms) ct co h =
     let l = rightEnd m leftward + g in
     let r = rightEnd m rightward + g in

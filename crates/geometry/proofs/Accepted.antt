@@ -20,7 +20,7 @@ use Rattle.geometry.specs.Entry.{sameLengths, goodPlaces, goodLabels, go
 use Rattle.geometry.specs.Pass.{mostGap, passVerdict}
 use Rattle.geometry.specs.inner.At.{markAt}
 use Rattle.geometry.specs.inner.Rising.{Rising}
-use Rattle.geometry.proofs.Split.{and-fst, and-snd}
+use Rattle.geometry.proofs.Split.{and-fst, and-snd, one-to}
 use Rattle.geometry.proofs.Dots.{dot-lt, range-dots, range-mag}
 
 -- what the checks on entry, once passed, say of a strip
@@ -156,10 +156,7 @@ every-at p (x ∷ xs) d (suc i) e h = every-at p xs d i (and-snd (p x) (every p 
 
 -- so every weight is one of 1 to 1,000
 pub weight-at : (ws : List ℕ) (i : ℕ) → every weightInRange ws ≡ true → i < length ws → (1 ≤ getD ws i 0) × (getD ws i 0 ≤ mostWeight)
-weight-at ws i e h =
-    let w = getD ws i 0 in
-    let ranged = every-at weightInRange ws 0 i e h in
-    (leb-true 1 w (and-fst (leb 1 w) (leb w mostWeight) ranged), leb-true w mostWeight (and-snd (leb 1 w) (leb w mostWeight) ranged))
+weight-at ws i e h = one-to mostWeight (getD ws i 0) (every-at weightInRange ws 0 i e h)
 
 -- three lists of one length make as many marks
 length-listed : (zs : List ℤ) (ls ws : List ℕ) → length zs ≡ length ls → length zs ≡ length ws → length (marksOfLists zs ls ws) ≡ length zs
@@ -191,7 +188,7 @@ marks-from s i e f h = from-lists (s .places) (s .lengths) (s .weights) i e f h
 
 -- a good place leaves more room than any good length
 one-mark : (z : ℤ) (l : ℕ) → placeInRange z ≡ true → lengthInRange l ≡ true → l < dot z
-one-mark z l p q = omega (arith, range-dots z p, leb-true l mostLength (and-snd (leb 1 l) (leb l mostLength) q))
+one-mark z l p q = omega (arith, range-dots z p, one-to mostLength l q)
 
 -- the first of a good list, and the rest of it
 module _ {A : Type 0} (p : A → Bool) (x : A) (xs : List A) where

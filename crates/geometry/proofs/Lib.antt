@@ -2,6 +2,7 @@
 pub mod Split
 pub mod Dots
 pub mod Places
+pub mod Each
 pub mod Every
 pub mod Lent
 pub mod Verdicts

@@ -5,11 +5,11 @@ use mathlib.Core.List.{List, [], _∷_}
 use native.Mathlib.Omega.{arith}
 use Rattle.geometry.specs.Mark.{Mark}
 use Rattle.geometry.specs.inner.Rising.{Rising}
+use Rattle.geometry.specs.inner.Each.{Each}
 
 -- every mark lies beyond x
 abbrev pub Beyond : ℕ → List Mark → Type 0
-Beyond x [] = Unit {0}
-Beyond x (m ∷ ms) = (x < m .place) × Beyond x ms
+Beyond x ms = Each (λ m. x < m .place) ms
 
 -- what lies beyond y lies beyond any x below it
 beyond-less : (x y : ℕ) (ms : List Mark) → x < y → Beyond y ms → Beyond x ms

@@ -4,16 +4,15 @@ use mathlib.Core.Path.{_≡_, refl, sym, _∙_, ap, ap₂}
 use mathlib.Core.Bool.{Bool, true, _&&_}
 use Prim.Native.Nat.{ℕ, _+_, _≤_, _<_}
 use native.Mathlib.Omega.{arith}
-use lib.Dec.{leb, ltb}
+use lib.Dec.{ltb}
 use lib.IntN.{ℤ, pos, _+ℤ_}
 use lib.Signed.{mag, ltZ}
-use borrow.Author.Tests.{leb-true}
 use Rattle.geometry.specs.Dot.{dot}
-use Rattle.geometry.specs.Mark.{Mark, placeInRange, lengthInRange}
+use Rattle.geometry.specs.Mark.{Mark, placeInRange, lengthInRange, mostLength}
 use Rattle.geometry.specs.Position.{Direction, leftward, rightward, Position, unlabelled, at, sameSide}
 use Rattle.geometry.specs.Overlap.{leftEnd, rightEnd, overlaps}
 use Rattle.geometry.specs.SignedEnds.{signedLeftEnd, signedRightEnd, signedOverlaps}
-use Rattle.geometry.proofs.Split.{and-snd}
+use Rattle.geometry.proofs.Split.{one-to}
 use Rattle.geometry.proofs.Dots.{not-low, add-not-low, dot-lt-high, dot-add, mag-add, dot-sub, mag-sub, range-dots, range-mag}
 
 -- a coordinate compared with another one plus any gap, by their dots i and j
@@ -28,8 +27,8 @@ markOf z l w = record { place = dot z; labelLength = l; weight = w }
 -- the ends of an accepted label, as dots
 module _ (w : ℕ) (z : ℤ) (l : ℕ) (p : placeInRange z ≡ true) (q : lengthInRange l ≡ true) where
   -- each end has the model's end as its dot, and 16 bits hold it
-  short : l ≤ 240
-  short = leb-true l 240 (and-snd (leb 1 l) (leb l 240) q)
+  short : l ≤ mostLength
+  short = one-to mostLength l q .1
 
   left-dot : (d : Direction) → dot (signedLeftEnd z l d) ≡ leftEnd (markOf z l w) d
   left-dot leftward = dot-sub z l (range-mag z p) (omega (arith, short, range-dots z p))

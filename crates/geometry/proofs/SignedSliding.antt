@@ -8,11 +8,9 @@ use mathlib.Core.List.{List, [], _∷_, map}
 use Prim.Native.Nat.{ℕ, suc, _+_, _-_, _*_, _≤_, _<_}
 use native.Mathlib.Nat.{mul-pos}
 use native.Mathlib.Omega.{arith}
-use lib.Dec.{leb}
 use lib.IntN.{ℤ, pos, negsuc, subℕ, _+ℤ_, _-ℤ_, _*ℤ_}
 use lib.ListN.{length}
 use lib.Signed.{mag, leZ}
-use borrow.Author.Tests.{leb-true}
 use Rattle.geometry.specs.Dot.{dot}
 use Rattle.geometry.specs.Lists.{every}
 use Rattle.geometry.specs.Mark.{placeInRange, lengthInRange, mostLength}
@@ -20,7 +18,8 @@ use Rattle.geometry.specs.Strip.{Strip, marksOfLists, marksOf}
 use Rattle.geometry.specs.Position.{Side}
 use Rattle.geometry.specs.Sliding.{EdgeAllowed, ApartOnSide, SlidingPlacing, Slides}
 use Rattle.geometry.specs.SignedEnds.{SignedEdgeAllowed, SignedApartOnSide, SignedSliding, SignedSlides}
-use Rattle.geometry.proofs.Split.{by-ltb, and-snd}
+use Rattle.geometry.specs.inner.Each.{Each}
+use Rattle.geometry.proofs.Split.{by-ltb, one-to}
 use Rattle.geometry.proofs.Dots.{dot-sub, mag-sub, range-dots, range-mag}
 use Rattle.geometry.proofs.Distances.{from, Above, le-from, from-le, above-more, above-some, from-add, above-add, scaled, above-scaled}
 use Rattle.geometry.proofs.Accepted.{Accepted, first-good, rest-good}
@@ -35,14 +34,13 @@ module _ (g n : ℕ) (some : 1 ≤ n) where
   High e = Above (n * 32768) e
 
   abbrev AllHigh : List ℤ → Type 0
-  AllHigh [] = Unit {0}
-  AllHigh (e ∷ es) = High e × AllHigh es
+  AllHigh es = Each High es
 
   -- the edges that the label of an accepted mark may have
   module _ (z : ℤ) (l w : ℕ) (good : placeInRange z ≡ true) (short : lengthInRange l ≡ true) where
     -- its first and its last edge, n times place − length and n times place, by their parts
     l-short : l ≤ mostLength
-    l-short = leb-true l mostLength (and-snd (leb 1 l) (leb l mostLength) short)
+    l-short = one-to mostLength l short .1
 
     first-mag : mag (z -ℤ pos l) < 32768
     first-mag = mag-sub z l (range-mag z good) (omega (arith, l-short, range-dots z good))

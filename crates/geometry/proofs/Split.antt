@@ -53,6 +53,10 @@ pub and-snd : (s t : Bool) → (s && t) ≡ true → t ≡ true
 and-snd true t e = e
 and-snd false t e = absurd (mathlib.Core.Bool.false≢true e)
 
+-- a number from 1 to a greatest one, by its test
+pub one-to : (most v : ℕ) → (leb 1 v && leb v most) ≡ true → (1 ≤ v) × (v ≤ most)
+one-to most v e = (leb-true 1 v (and-fst (leb 1 v) (leb v most) e), leb-true v most (and-snd (leb 1 v) (leb v most) e))
+
 -- a test does not have both answers
 pub clash {ℓ} : {X : Type ℓ} {t : Bool} → t ≡ true → t ≡ false → X
 clash {t = true} p q = absurd (mathlib.Core.Bool.true≢false q)

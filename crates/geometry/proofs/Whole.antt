@@ -8,17 +8,15 @@ use mathlib.Core.Logic.{inl, inr, _↔_}
 use mathlib.Core.Option.{Option, none, some}
 use Prim.Native.Nat.{ℕ, _+_, _≤_}
 use native.Mathlib.Omega.{arith}
-use lib.Dec.{leb}
 use lib.IntN.{ℤ}
 use lib.ListN.{length}
-use borrow.Author.Tests.{leb-true}
 use Rattle.geometry.specs.Lists.{every, sumList, wordsOf}
 use Rattle.geometry.specs.Mark.{Mark, weightInRange, mostWeight}
 use Rattle.geometry.specs.Strip.{Strip, marksOfLists, marksOf}
 use Rattle.geometry.specs.Position.{Side, above, below, Direction, leftward, rightward, Position, unlabelled, at, ranked, labelled}
 use Rattle.geometry.specs.Overlap.{free, allLabelled}
 use Rattle.geometry.specs.Placing.{IsPlacing, firstPlacing, sumOf, bestSum}
-use Rattle.geometry.proofs.Split.{both, and-fst, clash}
+use Rattle.geometry.proofs.Split.{both, clash, one-to}
 use Rattle.geometry.proofs.Words.{Member, Spelled, word-listed, word-spelled, found-passes, one-found, never-none}
 use Rattle.geometry.proofs.Accepted.{first-good, rest-good}
 use Rattle.geometry.proofs.Best.{free-length, best-bounds, best-attained}
@@ -107,8 +105,7 @@ found-placing g ms c e =
 -- the marks of three lists weigh what the weight list says
 heavy-lists : (zs : List ℤ) (ls ws : List ℕ) → every weightInRange ws ≡ true → (m : Mark) → Member m (marksOfLists zs ls ws) → 1 ≤ m .weight
 unfolding marksOfLists
-heavy-lists (z ∷ zs) (l ∷ ls) (w ∷ ws) e m (inl k) =
-    rw k (leb-true 1 w (and-fst (leb 1 w) (leb w mostWeight) (first-good weightInRange w ws e)))
+heavy-lists (z ∷ zs) (l ∷ ls) (w ∷ ws) e m (inl k) = rw k (one-to mostWeight w (first-good weightInRange w ws e) .0)
 heavy-lists (z ∷ zs) (l ∷ ls) (w ∷ ws) e m (inr h) = heavy-lists zs ls ws (rest-good weightInRange w ws e) m h
 
 -- every weight of the list is in its range, so every mark weighs at least 1

@@ -9,6 +9,7 @@ use Prim.Native.Nat.{ℕ, zero, suc, _≤_, _<_, max}
 use native.Mathlib.Omega.{arith}
 use lib.ListN.{length, getD}
 use Rattle.geometry.specs.Lists.{firstOf, greatestOf, prefixed, wordsOf}
+use Rattle.geometry.specs.inner.Each.{Each}
 use Rattle.geometry.proofs.Split.{by-bool, clash, lt-or-ge}
 
 -- x is an element of the list
@@ -18,8 +19,7 @@ Member x (y ∷ ys) = (x ≡ y) ⊎ Member x ys
 
 -- each element of a word is one of the letters
 abbrev pub Spelled : {A : Type 0} → List A → List A → Type 0
-Spelled letters [] = Unit {0}
-Spelled letters (a ∷ w) = Member a letters × Spelled letters w
+Spelled letters w = Each (λ a. Member a letters) w
 
 -- the element at an index is one of the list
 pub member-at : {A : Type 0} (d : A) (xs : List A) (i : ℕ) → i < length xs → Member (getD xs i d) xs

@@ -1,5 +1,6 @@
 -- Definitions that no public contract names.
 pub mod At
+pub mod Each
 pub mod OnEntry
 pub mod Outside
 pub mod Place

@@ -7,8 +7,8 @@ use mathlib.Core.List.{List, [], _∷_, _++_, append-assoc}
 use mathlib.Core.Logic.{inl, inr}
 use Prim.Native.Nat.{ℕ, zero, suc, _+_, _≤_, _<_}
 use native.Mathlib.Omega.{arith}
-use borrow.Author.Tests.{leb-true, eqb-true, not-true}
-use lib.Dec.{leb, eqb}
+use borrow.Author.Tests.{eqb-true, not-true}
+use lib.Dec.{eqb}
 use lib.IntN.{ℤ, pos, _+ℤ_}
 use lib.Signed.{leZ}
 use Rattle.geometry.specs.Dot.{dot}
@@ -16,7 +16,7 @@ use Rattle.geometry.specs.Mark.{placeInRange, mostPlace}
 use Rattle.geometry.specs.Strip.{Strip}
 use Rattle.geometry.specs.Refusal.{strayBit}
 use Rattle.geometry.specs.inner.Place.{placeOf, mostDot}
-use Rattle.geometry.proofs.Split.{lt-or-ge, clash, and-fst}
+use Rattle.geometry.proofs.Split.{lt-or-ge, clash, one-to}
 use Rattle.geometry.proofs.Dots.{dot-add, range-dots, range-mag}
 use Rattle.geometry.proofs.Places.{place-of-dot, place-step, place-above, place-fits}
 use Rattle.job.specs.Number.{Bytes}
@@ -116,7 +116,7 @@ module _ (first : Bool) (z : ℤ) (map : ℕ) (bs : List ℕ) (pz : placeInRange
       (record {
         good =
             record {
-              follows = after-follows first z step pz (leb-true 1 step (and-fst (leb 1 step) (leb step mostStep) (place .step-back .fits)));
+              follows = after-follows first z step pz (one-to mostStep step (place .step-back .fits) .0);
               place = after-in-range first z step pz (place .near);
               labelLength = label .length-back .fits;
               weight = label .weight-back .fits;

@@ -6,21 +6,20 @@ use mathlib.Core.Bool.{Bool, true, false, not, cond, _&&_}
 use mathlib.Core.List.{List, [], _∷_, _++_, append-assoc}
 use Prim.Native.Nat.{ℕ, _+_, _-_, _≤_, _<_}
 use native.Mathlib.Omega.{arith}
-use borrow.Author.Tests.{leb-true}
-use lib.Dec.{leb, eqb}
+use lib.Dec.{eqb}
 use lib.IntN.{ℤ, pos, _+ℤ_}
 use lib.Signed.{leZ}
 use lib.ListN.{length, length-append}
 use lib.Seq.{take-at, drop-at}
 use Rattle.geometry.specs.Dot.{dot}
 use Rattle.geometry.specs.Mark.{placeInRange, leastPlace, mostPlace, mostLength, mostWeight}
-use Rattle.geometry.proofs.Split.{by-eqb, and-snd}
+use Rattle.geometry.specs.Strip.{strip}
+use Rattle.geometry.proofs.Split.{by-eqb, and-snd, one-to}
 use Rattle.geometry.proofs.Dots.{dot-add, mag-add, dot-injective, range-dots, range-mag}
 use Rattle.job.specs.Number.{bigEndian, bytesOf}
 use Rattle.job.specs.Outcome.{given}
 use Rattle.job.specs.Format.{mostStep, absentStep, absentLength, absentWeight, Field, stepField, lengthField, weightField}
 use Rattle.job.specs.Decode.{front, fieldIf, decodeField, placeAfter, decodePlace, markOf, decodeLabel, hasStrayBit, decodeRecord, decodeRecords}
-use Rattle.geometry.specs.Strip.{strip}
 use Rattle.job.specs.Encode.{encodeBit, encodeField, encodeMap, encodeRecord, stepTo, encodeRecords}
 use Rattle.job.proofs.Numbers.{bytes-length, back-one, back-two}
 use Rattle.job.proofs.MapByte.{bits, MapOf, bits-map, no-stray}
@@ -111,13 +110,13 @@ module _ (first : Bool) (z y : ℤ) (l w : ℕ) (rest : List ℕ) (pz : placeInR
 
   -- the length and the weight are within their fields
   small-length : l ≤ mostLength
-  small-length = leb-true l mostLength (and-snd (leb 1 l) (leb l mostLength) (good .labelLength))
+  small-length = one-to mostLength l (good .labelLength) .1
 
   length-back : decodeField lengthField map behindStep ≡ given (front l behindLength)
   length-back = rw (is-map .length-bit) (field-back lengthField l behindLength (back-one l (omega (arith, small-length))) (good .labelLength))
 
   small-weight : w ≤ mostWeight
-  small-weight = leb-true w mostWeight (and-snd (leb 1 w) (leb w mostWeight) (good .weight))
+  small-weight = one-to mostWeight w (good .weight) .1
 
   weight-back : decodeField weightField map behindLength ≡ given (front w rest)
   weight-back = rw (is-map .weight-bit) (field-back weightField w rest (back-two w (omega (arith, small-weight))) (good .weight))

@@ -11,15 +11,19 @@ use borrow.Author.Tests.{lt-ltb, le-ltb, ltb-true}
 use lib.Dec.{leb, ltb}
 use Rattle.geometry.specs.Mark.{Mark}
 use Rattle.geometry.specs.inner.Outside.{noBound}
+use Rattle.geometry.specs.inner.Each.{Each}
 use Rattle.geometry.proofs.Split.{by-leb, lt-or-ge, same-test, leb-max}
 use Rattle.slide.specs.inner.Room.{slidBy, reachAt, reachPast, slideable, furthest, ownSide, otherSide, room}
 use Rattle.slide.proofs.Slideable.{exchanged, smaller-reach}
 use Rattle.slide.proofs.FurthestSlide.{furthest-within, furthest-exact}
 
--- every label, with the gap, lies between the coordinates 0 and noBound wherever it slides, as that of every accepted mark does
+-- a label, with the gap, lies between the coordinates 0 and noBound wherever it slides, as that of every accepted mark does
+pub record LabelInside (g : ℕ) (m : Mark) : Type 0 where
+  pub left : m .labelLength < m .place
+  pub right : m .place + m .labelLength + g < noBound
+
 abbrev pub Inside : ℕ → List Mark → Type 0
-Inside g [] = Unit {0}
-Inside g (m ∷ ms) = (m .labelLength < m .place) × (m .place + m .labelLength + g < noBound) × Inside g ms
+Inside g ms = Each (LabelInside g) ms
 
 -- the cells of m before the marks ms
 abbrev pub cellsOf : ℕ → Mark → List Mark → ℕ → ℕ
@@ -41,10 +45,10 @@ room-within g t [] inside = omega arith
 room-within g t (m ∷ ms) inside =
     let cells : ℕ → ℕ = cellsOf g m ms in
     let own : ownSide m t cells ≤ noBound =
-    by-leb t (m .place) (λ c. cond c (cells (slidBy m t)) 0 ≤ noBound) (λ _. room-within g _ ms (inside .2)) (λ _. omega arith) in
+    by-leb t (m .place) (λ c. cond c (cells (slidBy m t)) 0 ≤ noBound) (λ _. room-within g _ ms (inside .1)) (λ _. omega arith) in
     let other : otherSide m (furthest cells t (suc (m .labelLength))) ≤ suc (m .place) =
-    other-within m _ (inside .0) (furthest-within cells t (suc (m .labelLength))) in
-    omega (arith, inside .1)
+    other-within m _ (inside .0 .left) (furthest-within cells t (suc (m .labelLength))) in
+    omega (arith, inside .0 .right)
 
 -- what a cell says of each reach
 abbrev Exact : ℕ → List Mark → Type 0
@@ -73,7 +77,7 @@ module _ (g t o : ℕ) (m : Mark) (ms : List Mark) (exact : Exact g ms) (inside 
   own-exact : o < noBound → ltb o (ownSide m t (cellsOf g m ms)) ≡ (leb t (m .place) && slideable g (reachPast g m t) o ms)
   own-exact small =
       by-leb t (m .place) (λ c. ltb o (cond c (cellsOf g m ms (slidBy m t)) 0) ≡ (c && slideable g (reachPast g m t) o ms))
-      (λ h. rw (reach-past g m t (inside .0)) (exact (reachAt g m (slidBy m t)) o (omega (arith, inside .0, inside .1)) small))
+      (λ h. rw (reach-past g m t (inside .0 .left)) (exact (reachAt g m (slidBy m t)) o (omega (arith, inside .0)) small))
       (λ h. le-ltb o 0 (omega arith))
 
   -- the label on the other side
@@ -81,8 +85,8 @@ module _ (g t o : ℕ) (m : Mark) (ms : List Mark) (exact : Exact g ms) (inside 
       → ltb o (otherSide m (furthest (cellsOf g m ms) t (suc (m .labelLength)))) ≡ (leb o (m .place) && slideable g t (reachPast g m o) ms)
   other-exact small =
       by-leb o (m .place) (λ c. ltb o (otherSide m slides) ≡ (c && slideable g t (reachPast g m o) ms))
-      (λ h. sym (slide-bound m o slides) ∙ sym (below-furthest h) ∙ rw (reach-past g m o (inside .0)) (by-cell h))
-      (λ h. le-ltb o (otherSide m slides) (omega (arith, other-within m slides (inside .0) (furthest-within cells t (suc (m .labelLength))))))
+      (λ h. sym (slide-bound m o slides) ∙ sym (below-furthest h) ∙ rw (reach-past g m o (inside .0 .left)) (by-cell h))
+      (λ h. le-ltb o (otherSide m slides) (omega (arith, other-within m slides (inside .0 .left) (furthest-within cells t (suc (m .labelLength))))))
     where
       cells : ℕ → ℕ
       cells = cellsOf g m ms
@@ -91,25 +95,25 @@ module _ (g t o : ℕ) (m : Mark) (ms : List Mark) (exact : Exact g ms) (inside 
       slides = furthest cells t (suc (m .labelLength))
 
       falls : (d e : ℕ) → d ≤ e → e < suc (m .labelLength) → cells e ≤ cells d
-      falls d e h k = room-falls g (reachAt g m d) (reachAt g m e) ms exact (inside .2) (omega arith) (omega (arith, inside .1))
+      falls d e h k = room-falls g (reachAt g m d) (reachAt g m e) ms exact (inside .1) (omega arith) (omega (arith, inside .0 .right))
 
       below-furthest : o ≤ m .place → ltb t (cells (slidBy m o)) ≡ ltb (slidBy m o) slides
-      below-furthest h = furthest-exact cells t (suc (m .labelLength)) falls (slidBy m o) (omega (arith, inside .0))
+      below-furthest h = furthest-exact cells t (suc (m .labelLength)) falls (slidBy m o) (omega (arith, inside .0 .left))
 
       by-cell : o ≤ m .place → ltb t (cells (slidBy m o)) ≡ slideable g t (reachAt g m (slidBy m o)) ms
       by-cell h =
-          exact (reachAt g m (slidBy m o)) t (omega (arith, inside .0, inside .1)) small ∙ exchanged g (reachAt g m (slidBy m o)) t ms
+          exact (reachAt g m (slidBy m o)) t (omega (arith, inside .0)) small ∙ exchanged g (reachAt g m (slidBy m o)) t ms
 
 -- The theorem: both sides of the next label taken together.
 pub room-exact : (g : ℕ) (ms : List Mark) → Inside g ms → Exact g ms
 unfolding room slideable
 room-exact g [] inside t o ht ho = lt-ltb o noBound ho
 room-exact g (m ∷ ms) inside t o ht ho =
-    let exact : Exact g ms = room-exact g ms (inside .2) in
+    let exact : Exact g ms = room-exact g ms (inside .1) in
     leb-max (suc o) (ownSide m t (cellsOf g m ms)) (otherSide m (furthest (cellsOf g m ms) t (suc (m .labelLength))))
     ∙ ap₂ _||_ (own-exact g t o m ms exact inside ho) (other-exact g t o m ms exact inside ht)
 
 -- the test of the walk: the label can lie on the side of t, and the rest goes with the reach o of the other side
 pub own-side-exact : (g t o : ℕ) (m : Mark) (ms : List Mark) → Inside g (m ∷ ms) → o < noBound
     → ltb o (ownSide m t (cellsOf g m ms)) ≡ (leb t (m .place) && slideable g (reachPast g m t) o ms)
-own-side-exact g t o m ms inside small = own-exact g t o m ms (room-exact g ms (inside .2)) inside small
+own-side-exact g t o m ms inside small = own-exact g t o m ms (room-exact g ms (inside .1)) inside small

@@ -5,15 +5,13 @@ use mathlib.Core.List.{List, [], _∷_}
 use Prim.Native.Nat.{ℕ, zero, suc, _+_, _≤_, _<_}
 use native.Mathlib.Omega.{arith}
 use native.Mathlib.Numerals.{add-one}
-use borrow.Author.Tests.{leb-true}
-use lib.Dec.{leb}
 use lib.IntN.{ℤ, pos}
 use lib.ListN.{length, getD, drop, drop-of-length-le}
 use Rattle.geometry.specs.Dot.{dot}
 use Rattle.geometry.specs.Lists.{every}
 use Rattle.geometry.specs.Mark.{Mark, placeInRange, lengthInRange, mostLength}
 use Rattle.geometry.specs.Pass.{mostGap}
-use Rattle.geometry.proofs.Split.{and-fst, and-snd}
+use Rattle.geometry.proofs.Split.{one-to}
 use Rattle.geometry.proofs.Accepted.{every-at, first-good, rest-good}
 use Rattle.geometry.proofs.Dots.{range-dots}
 use Rattle.slide.specs.inner.Plain.{plainMark, plainMarks, Checked}
@@ -28,8 +26,8 @@ plainAt places lengths i = plainMark (dot (getD places i (pos 0))) (getD lengths
 good-label : (z : ℤ) (l : ℕ) → placeInRange z ≡ true → lengthInRange l ≡ true → GoodLabel (plainMark (dot z) l)
 good-label z l place label =
     let dots = range-dots z place in
-    let short : l ≤ mostLength = leb-true l mostLength (and-snd (leb 1 l) _ label) in
-    record { some = leb-true 1 l (and-fst _ _ label); short = short; left = omega arith; right = omega arith }
+    let ranged = one-to mostLength l label in
+    record { some = ranged .0; short = ranged .1; left = omega (arith, ranged .1); right = omega arith }
 
 -- one mark for each place, and the mark at an index
 length-plain : (zs : List ℤ) (ls : List ℕ) → length ls ≡ length zs → length (plainMarks zs ls) ≡ length zs
@@ -54,12 +52,7 @@ plain-inside [] ls g p q narrow = tt
 plain-inside (z ∷ zs) [] g p q narrow = tt
 plain-inside (z ∷ zs) (l ∷ ls) g p q narrow =
     let label = good-label z l (first-good placeInRange z zs p) (first-good lengthInRange l ls q) in
-    (label .left, omega arith, plain-inside zs ls g (rest-good placeInRange z zs p) (rest-good lengthInRange l ls q) narrow)
-
-pub inside-drop : (g i : ℕ) (ms : List Mark) → Inside g ms → Inside g (drop i ms)
-inside-drop g zero ms inside = inside
-inside-drop g (suc i) [] inside = tt
-inside-drop g (suc i) (m ∷ ms) inside = inside-drop g i ms (inside .2)
+    (record { left = label .left; right = omega arith }, plain-inside zs ls g (rest-good placeInRange z zs p) (rest-good lengthInRange l ls q) narrow)
 
 module _ (places : List ℤ) (lengths : List ℕ) (g : ℕ) (checked : Checked places lengths g) where
   -- for a strip that passed the checks

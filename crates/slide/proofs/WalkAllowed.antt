@@ -44,7 +44,7 @@ walk-goes g a b m ms inside small e =
 pub below-small : (g : ℕ) (s : Side) (m : Mark) (ms : List Mark) (a b : ℕ) → Inside g (m ∷ ms) → ownReach s a b ≤ m .place → b < noBound
     → belowAfter s (reachPast g m (ownReach s a b)) b < noBound
 below-small g above m ms a b inside h small = small
-below-small g below m ms a b inside h small = omega (arith, inside .0, inside .1)
+below-small g below m ms a b inside h small = omega (arith, inside .0)
 
 -- so no edge of the walk is beyond its mark
 pub walk-allowed : (g a b : ℕ) (ms : List Mark) → Inside g ms → b < noBound → slideable g a b ms ≡ true
@@ -57,7 +57,7 @@ walk-allowed g a b (m ∷ ms) inside small e =
     let r : ℕ = reachPast g m (ownReach s a b) in
     both _ _
     (le-leb (leftmostEdge m (ownReach s a b)) (m .place) (omega (arith, goes .0)))
-    (walk-allowed g (aboveAfter s r a) (belowAfter s r b) ms (inside .2) (below-small g s m ms a b inside (goes .0) small) (goes .1))
+    (walk-allowed g (aboveAfter s r a) (belowAfter s r b) ms (inside .1) (below-small g s m ms a b inside (goes .0) small) (goes .1))
 
 -- a side for each mark
 pub walk-length : (g a b : ℕ) (ms : List Mark) → length (sidesFrom g a b ms) ≡ length ms
@@ -70,9 +70,9 @@ pub first-cell : (g : ℕ) (m : Mark) (ms : List Mark) → Inside g (m ∷ ms)
     → slideable g emptyReach emptyReach (m ∷ ms) ≡ ltb emptyReach (room g (reachAt g m 0) ms)
 unfolding slideable
 first-cell g m ms inside =
-    let r : reachPast g m emptyReach ≡ reachAt g m 0 = omega (arith, inside .0) in
-    let cell = room-exact g ms (inside .2) (reachAt g m 0) emptyReach (omega (arith, inside .0, inside .1)) (omega arith) in
-    rw (le-leb emptyReach (m .place) (omega (arith, inside .0)), r, exchanged g emptyReach (reachAt g m 0) ms, ← cell) (or-self _)
+    let r : reachPast g m emptyReach ≡ reachAt g m 0 = omega (arith, inside .0 .left) in
+    let cell = room-exact g ms (inside .1) (reachAt g m 0) emptyReach (omega (arith, inside .0)) (omega arith) in
+    rw (le-leb emptyReach (m .place) (omega (arith, inside .0 .left)), r, exchanged g emptyReach (reachAt g m 0) ms, ← cell) (or-self _)
 
 -- the test as the code makes it, by the cell that it found
 module _ (m : Mark) (a b cell : ℕ) (cells : ℕ → ℕ) (cell-is : cell ≡ ownSide m a cells) where

@@ -16,14 +16,15 @@ use Rattle.geometry.specs.Sliding.{edgesFrom}
 use Rattle.geometry.specs.Pass.{written}
 use Rattle.geometry.specs.inner.Place.{placeOf}
 use Rattle.geometry.specs.inner.Outside.{noBound}
+use Rattle.geometry.proofs.Each.{each-drop}
 use Rattle.slide.specs.Slide.{workNamed}
 use Rattle.slide.specs.inner.Plain.{plainMarks, Checked}
 use Rattle.slide.specs.inner.Room.{slideable}
 use Rattle.slide.specs.inner.Table.{rowCells, rowFrom, RowHolds, TableHolds}
 use Rattle.slide.specs.inner.Walk.{takesAbove, sideOf, sideBefore, sidesFrom, LabelOn, StepReady, fitsPlain}
-use Rattle.slide.proofs.ExactCells.{Inside, cellsOf}
+use Rattle.slide.proofs.ExactCells.{LabelInside, Inside, cellsOf}
 use Rattle.slide.proofs.WalkAllowed.{Goes, walk-goes, below-small, walk-length}
-use Rattle.slide.proofs.PlainMarks.{plainAt, inside-drop, marks-inside, marks-length, label-at, marks-from, marks-end}
+use Rattle.slide.proofs.PlainMarks.{plainAt, marks-inside, marks-length, label-at, marks-from, marks-end}
 use Rattle.slide.proofs.FilledRows.{own-same}
 use Rattle.slide.proofs.RowByRow.{rows-from}
 use Rattle.slide.proofs.WrittenSoFar.{WrittenTo, written-none, written-more, written-all}
@@ -130,7 +131,7 @@ module _ (places : List ℤ) (lengths : List ℕ) (g : ℕ) where
         left-marks = marks-from places lengths g checked i more
 
         inside : Inside g (here ∷ rest)
-        inside = subst (Inside g) left-marks (inside-drop g i marks (marks-inside places lengths g checked))
+        inside = subst (Inside g) left-marks (each-drop (LabelInside g) i marks (marks-inside places lengths g checked))
 
         goes : Goes g a b here rest (sideBefore g a b here rest)
         goes = walk-goes g a b here rest inside (walked .small) (rw left-marks at (walked .going))
@@ -143,7 +144,7 @@ module _ (places : List ℤ) (lengths : List ℕ) (g : ℕ) where
         same-test : takesAbove a b here row ≡ takesAbove a b here (cellsOf g here rest)
         same-test =
             ap (ltb b)
-            (own-same here a row (cellsOf g here rest) (inside .0) (λ d h. sym (getD-drop (i * rowCells) work d 0) ∙ row-holds d h))
+            (own-same here a row (cellsOf g here rest) (inside .0 .left) (λ d h. sym (getD-drop (i * rowCells) work d 0) ∙ row-holds d h))
 
         -- what the step asks
         pub step-ready : workNamed ≤ length work → StepReady work (i * rowCells) here g a b

@@ -9,8 +9,9 @@ use Rattle.geometry.specs.Dot.{dot}
 use Rattle.geometry.specs.Mark.{placeInRange, lengthInRange}
 use Rattle.geometry.specs.Position.{Position, code}
 use Rattle.geometry.specs.inner.Machine.{nextAbove, nextBelow}
+use Rattle.geometry.specs.inner.Each.{Each}
 use Rattle.full.specs.inner.Row.{candidates, alike, countOf}
-use Rattle.full.specs.inner.SixteenBits.{LeftEdge, Reach, Stored, Carried, Each, Narrow}
+use Rattle.full.specs.inner.SixteenBits.{LeftEdge, Reach, Stored, Carried, Narrow}
 
 -- a mark in its ranges and a gap: all that ends and reaches are formed from
 pub record Formed (place : ℤ) (labelLength g : ℕ) : Type 0 where

@@ -35,12 +35,13 @@ pub record Taken : Type 0 where
   pub reachAbove : ℕ
   pub reachBelow : ℕ
 
-abbrev pub takenAt : ℕ → ℕ → ℕ → Mark → Position → Taken
-takenAt g a b m p = record { position = p; reachAbove = nextAbove g a m p; reachBelow = nextBelow g b m p }
-
 unfoldable pub steps : ℕ → ℕ → ℕ → List Mark → List Taken
 steps g a b [] = []
-steps g a b (m ∷ ms) = let t = takenAt g a b m (pick g a b m ms) in t ∷ steps g (t .reachAbove) (t .reachBelow) ms
+steps g a b (m ∷ ms) =
+    let p = pick g a b m ms in
+    let a′ = nextAbove g a m p in
+    let b′ = nextBelow g b m p in
+    record { position = p; reachAbove = a′; reachBelow = b′ } ∷ steps g a′ b′ ms
 
 -- the positions that it takes
 abbrev pub walk : ℕ → ℕ → ℕ → List Mark → List Position

@@ -4,7 +4,6 @@
 -- −32,768 would have the dot 0, which no left edge has.
 use Prim.Native.Nat.{ℕ, _+_, _≤_, _<_}
 use mathlib.Core.Path.{_≡_}
-use mathlib.Core.List.{List, [], _∷_}
 use lib.IntN.{ℤ, pos, negsuc}
 use lib.ListN.{length}
 use Rattle.geometry.specs.Dot.{dot, emptyReach}
@@ -15,6 +14,7 @@ use Rattle.geometry.specs.Overlap.{leftEnd, rightEnd}
 use Rattle.geometry.specs.Refusal.{accepted}
 use Rattle.geometry.specs.Entry.{entry}
 use Rattle.geometry.specs.Pass.{mostGap}
+use Rattle.geometry.specs.inner.Each.{Each}
 use Rattle.geometry.specs.inner.Outside.{noReach, noBound}
 use Rattle.full.specs.inner.Row.{rowIn}
 use Rattle.full.specs.inner.Rest.{steps}
@@ -70,11 +70,6 @@ pub data Number (d : ℕ) : Type 0 where
   isRightEnd : RightEnd d → Number d
   isStored : Stored d → Number d
   isCarried : Carried d → Number d
-
--- said of each element of a list
-abbrev pub Each : {A : Type 0} → (A → Type 0) → List A → Type 0
-Each P [] = Unit {0}
-Each P (x ∷ xs) = P x × Each P xs
 
 -- a mark's label, to the left of it and to the right: its ends, and its right end plus the gap
 pub record EndsHeld (g : ℕ) (m : Mark) : Type 0 where

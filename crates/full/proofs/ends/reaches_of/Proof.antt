@@ -6,8 +6,8 @@ use mir.Syntax.{w16}
 use mir.Val.{toZ, ofZ}
 use Rattle.geometry.specs.Dot.{dot}
 use Rattle.geometry.specs.Mark.{mostLength}
+use Rattle.geometry.proofs.Split.{one-to}
 use Rattle.geometry.proofs.Dots.{back, fetched, InDots, range-dots}
-use Rattle.full.proofs.EndsHeld.{short-label}
 use Rattle.full.proofs.ends.reaches_of.Statement.{statement}
 use Rattle.full.proofs.ends.reaches_of.Tie as tie
 
@@ -16,7 +16,7 @@ placed : (s : tie.Start) → InDots (dot (s .args .place))
 placed s = range-dots (s .args .place) (s .pre .place-good)
 
 short : (s : tie.Start) → s .args .length ≤ mostLength
-short s = short-label (s .args .length) (s .pre .length-good)
+short s = one-to mostLength (s .args .length) (s .pre .length-good) .1
 
 -- the place and the near reach as they were read
 place-read : (s : tie.Start) → dot (toZ w16 (ofZ w16 (s .args .place))) ≡ dot (s .args .place)

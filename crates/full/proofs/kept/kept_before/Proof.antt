@@ -10,11 +10,11 @@ use mir.Val.{toZ, ofZ}
 use borrow.Author.Needs.{needs}
 use Rattle.geometry.specs.Dot.{dot}
 use Rattle.geometry.specs.Position.{leftward, rightward}
+use Rattle.geometry.proofs.Each.{each-at}
 use Rattle.geometry.proofs.Dots.{back, fetched}
 use Rattle.full.specs.inner.SixteenBits.{Reach, Stored, EndsHeld}
 use Rattle.full.specs.inner.OneMark.{GreatestReady, four}
 use Rattle.full.proofs.EndsHeld.{formed-ends, reach-back}
-use Rattle.full.proofs.SixteenBits.{each-at}
 use Rattle.full.proofs.kept.kept_before.Statement.{statement}
 use Rattle.full.proofs.kept.kept_before.Tie as tie
 
