@@ -15,13 +15,19 @@
  * refusal. Except for the work area at refusal 11, a refusal changes no list. Elements that a call is not said to write are
  * unchanged. No call keeps a pointer, allocates memory or holds state of its own, so calls on separate buffers may run at once.
  *
+ * The order of the checks:
+ *   - passes: 6, 12, 7 over 4,000 marks, 8, 7 over the marks that the pass takes, 9, 10, and at the end 11;
+ *   - writer: 6, 7 over 4,000 marks, 8, 9;
+ *   - reader: 1 and 4 for the header, 9, then 1 to 4 record by record, and at the end 5.
+ * So past 6 and 12 slide and best refuse a strip of 61 to 4,000 marks by 8 if one of them is bad, and by 7 if all are good.
+ *
  * The archive, target/staticlib/libexports.a, is an `ar` archive of one ELF object for x86-64 with the System V calling
  * convention: some 18,400 bytes, of them 12,800 code and constants, and no variables. It leaves one symbol undefined, memset. It
  * links into position-independent and into static programs. It uses SSE2 registers, and the 128 bytes below the stack pointer
  * that the convention keeps free: an interrupt on the same stack must leave both as they were.
  *
  * Steps for n marks, at most, as the loops go (read off the code, not proved; a step is a few comparisons):
- *   - every pass and the writer: 4n for the checks on entry;
+ *   - every pass and the writer: 4n for the checks on entry, and none of them over 4,000 marks;
  *   - full: n to fill its table, n to walk, and 20,000 to clear the work area;
  *   - slide: 482n to fill its table, n to walk, and 30,000 to clear the work area;
  *   - best: 2n(n + 1)(2n + 1)/3 cells with five offers each (295,240 cells at 60 marks), 2n(n + 1) offers that the cells of a row
@@ -42,8 +48,9 @@ extern "C" {
  * Grows by one with each change of a signature or of an answer.
  *   2: strip_best lists left-out marks by falling weight, equal weights by rising number; in version 1 their order was open.
  *   3: strip_full, strip_slide and strip_best take a gap behind the mark lists, and refuse 12; gap 0 gives the answers of version 2.
+ *   4: strip_slide and strip_best refuse 8 where they refused 7: past 6 and 12, with 61 to 4,000 marks, at least one of them bad.
  */
-#define STRIP_VERSION 3
+#define STRIP_VERSION 4
 
 /* What a call returns. */
 #define STRIP_ACCEPTED 0
@@ -53,7 +60,7 @@ extern "C" {
 #define STRIP_OUT_OF_RANGE 4    /* reader: a count, a place or a field is out of range */
 #define STRIP_BYTES_LEFT_OVER 5 /* reader: bytes follow the last record */
 #define STRIP_LISTS_UNEQUAL 6   /* passes, writer: mark lists of unequal length */
-#define STRIP_TOO_MANY_MARKS 7  /* passes, writer: more marks than the call takes */
+#define STRIP_TOO_MANY_MARKS 7  /* passes, writer: over 4,000 marks, or good ones but more than the pass takes */
 #define STRIP_BAD_MARK 8        /* passes, writer: a value out of range, or places not rising */
 #define STRIP_LIST_TOO_SHORT 9  /* all: a list to be filled is shorter than the count of marks, or the output than the job */
 #define STRIP_WORK_TOO_SHORT 10 /* passes: the work area is shorter than named below */

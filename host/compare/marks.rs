@@ -30,33 +30,28 @@ fn is_unequal(strip: &Strip) -> bool {
     strip.lengths.len() != strip.places.len() || strip.weights.len() != strip.places.len()
 }
 
-// The number of the first check on entry, 6 to 8, that is not passed.
-pub fn entry_number(strip: &Strip, most: usize) -> u8 {
-    if is_unequal(strip) {
-        6
-    } else if strip.places.len() > most {
-        7
-    } else if !in_range(strip) {
-        8
-    } else {
-        0
-    }
+// The number of the first rule that applies, in the order of the list, 0 if none does.
+fn first_number(rules: &[(bool, u8)]) -> u8 {
+    rules.iter().find(|(applies, _)| *applies).map_or(0, |(_, number)| *number)
 }
 
-// The same for a pass, which tests the gap right after 6, and the lengths of what it is lent at the end.
+// The rules about the marks, for a call that takes at most so many.
+fn marks_rules(strip: &Strip, most: usize) -> [(bool, u8); 3] {
+    let marks = strip.places.len();
+    [(marks > 4_000, 7), (!in_range(strip), 8), (marks > most, 7)]
+}
+
+// The number by the rules on the lists and the marks alone, as the writer has them.
+pub fn entry_number(strip: &Strip, most: usize) -> u8 {
+    first_number(&[&[(is_unequal(strip), 6)], &marks_rules(strip, most)[..]].concat())
+}
+
+// The number by all rules of a pass: the gap right behind 6, and at the end the lengths of what it is lent.
 pub fn pass_number(call: &Call, limits: &Limits) -> u8 {
-    let entry = entry_number(&call.strip, limits.marks);
-    if !is_unequal(&call.strip) && call.gap > 8 {
-        12
-    } else if entry != 0 {
-        entry
-    } else if call.answers.iter().any(|length| *length < call.strip.places.len()) {
-        9
-    } else if call.work < limits.work {
-        10
-    } else {
-        0
-    }
+    let lists = [(is_unequal(&call.strip), 6), (call.gap > 8, 12)];
+    let answers = call.answers.iter().any(|length| *length < call.strip.places.len());
+    let lent = [(answers, 9), (call.work < limits.work, 10)];
+    first_number(&[&lists, &marks_rules(&call.strip, limits.marks)[..], &lent].concat())
 }
 
 fn lengthen_or_shorten<T: Copy>(random: &mut Random, list: &mut Vec<T>, value: T) {
@@ -75,19 +70,32 @@ fn unequal(random: &mut Random, strip: &mut Strip) {
     }
 }
 
-// One value out of range, or one place not above the one before.
-fn bad_value(random: &mut Random, strip: &mut Strip) {
+// What can be wrong with a mark.
+#[derive(Clone, Copy, Debug)]
+pub enum Fault {
+    Place,
+    Length,
+    Weight,
+    Order,
+}
+
+pub const FAULTS: [Fault; 4] = [Fault::Place, Fault::Length, Fault::Weight, Fault::Order];
+
+// One value out of range, or one place not above the one before. A place out of range is the first or the last, so that places rise.
+pub fn spoil(random: &mut Random, strip: &mut Strip, fault: Fault) {
     let marks = strip.places.len().min(strip.lengths.len()).min(strip.weights.len());
     if marks == 0 {
         return;
     }
     let at = random.below(marks);
-    match random.below(5) {
-        0 => strip.places[at] = [-30_001, 30_001, i16::MIN, i16::MAX][random.below(4)],
-        1 => strip.lengths[at] = [0, 241, 255][random.below(3)],
-        2 => strip.weights[at] = [0, 1_001, u16::MAX][random.below(3)],
-        3 if at > 0 => strip.places[at] = strip.places[at - 1],
-        _ => strip.places.swap(0, at),
+    match fault {
+        Fault::Place if random.once_in(2) => strip.places[0] = [-30_001, i16::MIN][random.below(2)],
+        Fault::Place => *strip.places.last_mut().unwrap() = [30_001, i16::MAX][random.below(2)],
+        Fault::Length => strip.lengths[at] = [0, 241, 255][random.below(3)],
+        Fault::Weight => strip.weights[at] = [0, 1_001, u16::MAX][random.below(3)],
+        Fault::Order if marks == 1 => {}
+        Fault::Order if at > 0 && random.once_in(2) => strip.places[at] = strip.places[at - 1],
+        Fault::Order => strip.places.swap(0, at.max(1)),
     }
 }
 
@@ -97,7 +105,8 @@ pub fn damage_strip(random: &mut Random, strip: &mut Strip) {
         unequal(random, strip);
     }
     if random.once_in(8) {
-        bad_value(random, strip);
+        let fault = FAULTS[random.below(4)];
+        spoil(random, strip, fault);
     }
 }
 

@@ -1,5 +1,6 @@
 // A test program: document 01's strips, each boundary, jobs and listings. It prints a line for each group, and a line for each case that
 // disagrees.
+mod counts;
 mod crowds;
 mod ends;
 mod gaps;
@@ -15,6 +16,7 @@ use agreed::tally;
 fn main() {
     tally::print_group(b"worked strips", worked::worked());
     tally::print_group(b"ranges", ranges::ranges());
+    tally::print_group(b"counts of marks", counts::counts());
     tally::print_group(b"lent memory", lent::lent());
     tally::print_group(b"gaps", gaps::gaps());
     tally::print_group(b"ends of the coordinates", ends::ends());

@@ -4,5 +4,6 @@ pub mod FullNumber
 pub mod BestAndFull
 pub mod TripsByContracts
 pub mod Demands
+pub mod OrderChanged
 pub mod Comparison
 pub mod ThereAndBack

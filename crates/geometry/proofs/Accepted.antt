@@ -2,11 +2,11 @@
 -- places: acceptance means that each check of the list was passed, and each check is a test of one of these. So its marks, one for each
 -- place, rise strictly and no label ends below the coordinates: a place in range has a dot of at least 2,768, and a length is at most 240.
 use mathlib.Core.Path.{_≡_, refl, sym, _∙_, ap}
-use mathlib.Core.Bool.{Bool, true, false}
-use mathlib.Core.List.{List, [], _∷_}
+use mathlib.Core.Bool.{Bool, true}
+use mathlib.Core.List.{List, [], _∷_, _++_}
 use Prim.Native.Nat.{ℕ, zero, suc, _≤_, _<_}
 use native.Mathlib.Omega.{arith}
-use lib.Dec.{leb, eqb}
+use lib.Dec.{eqb}
 use lib.IntN.{ℤ}
 use lib.Signed.{ltZ}
 use lib.ListN.{length, getD, drop}
@@ -14,13 +14,14 @@ use borrow.Author.Tests.{le-leb, leb-true, eq-eqb, eqb-true, ltb-true}
 use Rattle.geometry.specs.Dot.{dot}
 use Rattle.geometry.specs.Lists.{every}
 use Rattle.geometry.specs.Mark.{placeInRange, lengthInRange, weightInRange, rising, mostLength, mostWeight}
-use Rattle.geometry.specs.Strip.{Strip, strip, marksOfLists, marksOf}
-use Rattle.geometry.specs.Refusal.{Refusal, Verdict, accepted, afterCheck, firstFailure, tooManyMarks, badMark}
-use Rattle.geometry.specs.Entry.{sameLengths, goodPlaces, goodLabels, goodMarks, entry}
-use Rattle.geometry.specs.Pass.{mostGap, passVerdict}
+use Rattle.geometry.specs.Strip.{Strip, strip, marksOfLists, marksOf, mostMarks}
+use Rattle.geometry.specs.Refusal.{Check, accepted, firstFailure}
+use Rattle.geometry.specs.Entry.{goodPlaces, goodLabels, listsChecks, countChecks, valueChecks, entryChecks, entry}
+use Rattle.geometry.specs.Pass.{mostGap, gapChecks, answerChecks, workChecks, passVerdict}
 use Rattle.geometry.specs.inner.At.{markAt}
 use Rattle.geometry.specs.inner.Rising.{Rising}
-use Rattle.geometry.proofs.Split.{and-fst, and-snd, one-to}
+use Rattle.geometry.proofs.Split.{both, and-fst, and-snd, one-to}
+use Rattle.geometry.proofs.Verdicts.{both-passed, all-passed, pass-none, one-passed, pass-one}
 use Rattle.geometry.proofs.Dots.{dot-lt, range-dots, range-mag}
 
 -- what the checks on entry, once passed, say of a strip
@@ -40,112 +41,116 @@ pub record PassAccepted (limit : ℕ) (s : Strip) (g shortest named lent : ℕ) 
   pub list-long : length (s .places) ≤ shortest
   pub work-long : named ≤ lent
 
--- a list of checks that ends well passes its first check, and the rest of it
-check-passed : (t : Bool) (r : Refusal) (v : Verdict) → afterCheck t r v ≡ accepted → t ≡ true
-check-passed true r v e = refl
-check-passed false r v e = let z : _≡_ {A = ℕ} 0 1 = cc in absurd (omega arith)
+-- the checks on entry are passed where each of them is, and only there
+record Passed (own : List Check) (limit : ℕ) (s : Strip) : Type 0 where
+  lists : firstFailure (listsChecks s) ≡ accepted
+  after-lists : firstFailure own ≡ accepted
+  taken : firstFailure (countChecks mostMarks s) ≡ accepted
+  values : firstFailure (valueChecks s) ≡ accepted
+  few : firstFailure (countChecks limit s) ≡ accepted
 
-rest-passed : (t : Bool) (r : Refusal) (v : Verdict) → afterCheck t r v ≡ accepted → v ≡ accepted
-rest-passed true r v e = e
-rest-passed false r v e = let z : _≡_ {A = ℕ} 0 1 = cc in absurd (omega arith)
+module _ (own : List Check) (limit : ℕ) (s : Strip) where
+  -- those up to each of them
+  abbrev to-own : List Check
+  to-own = listsChecks s ++ own
 
-module _ (limit : ℕ) (s : Strip) where
-  -- from the three tests
-  from-tests : sameLengths s ≡ true → leb (length (s .places)) limit ≡ true → goodMarks s ≡ true → Accepted limit s
-  from-tests same few good =
-      let lengths-equal = eqb (length (s .places)) (length (s .lengths)) in
-      let weights-equal = eqb (length (s .places)) (length (s .weights)) in
-      let places = and-fst (goodPlaces (s .places)) (goodLabels (s .lengths) (s .weights)) good in
-      let labels = and-snd (goodPlaces (s .places)) (goodLabels (s .lengths) (s .weights)) good in
-      record {
-        same-lengths = eqb-true _ _ (and-fst lengths-equal weights-equal same);
-        same-weights = eqb-true _ _ (and-snd lengths-equal weights-equal same);
-        few = leb-true _ _ few;
-        places-good = and-fst (every placeInRange (s .places)) (rising (s .places)) places;
-        places-rise = and-snd (every placeInRange (s .places)) (rising (s .places)) places;
-        lengths-good = and-fst (every lengthInRange (s .lengths)) (every weightInRange (s .weights)) labels;
-        weights-good = and-snd (every lengthInRange (s .lengths)) (every weightInRange (s .weights)) labels;
-      }
+  abbrev to-count : List Check
+  to-count = to-own ++ countChecks mostMarks s
 
-  -- past check 6, checks 7 and 8, with whatever verdict follows them
-  after-marks : (v : Verdict) → sameLengths s ≡ true
-      → afterCheck (leb (length (s .places)) limit) tooManyMarks (afterCheck (goodMarks s) badMark v) ≡ accepted
-      → Accepted limit s × (v ≡ accepted)
-  after-marks v same e =
-      let judged = rest-passed (leb (length (s .places)) limit) _ _ e in (
-        from-tests same (check-passed (leb (length (s .places)) limit) _ _ e) (check-passed (goodMarks s) _ _ judged),
-        rest-passed (goodMarks s) _ _ judged,
-      )
+  abbrev to-values : List Check
+  to-values = to-count ++ valueChecks s
 
-  -- from the verdict on entry
-  pub entry-accepted : entry limit s ≡ accepted → Accepted limit s
-  unfolding entry firstFailure
-  entry-accepted e = after-marks accepted (check-passed (sameLengths s) _ _ e) (rest-passed (sameLengths s) _ _ e) .0
+  each-passed : firstFailure (entryChecks own limit s) ≡ accepted → Passed own limit s
+  each-passed e =
+      let last = both-passed to-values (countChecks limit s) e in
+      let value = both-passed to-count (valueChecks s) (last .0) in
+      let count = both-passed to-own (countChecks mostMarks s) (value .0) in
+      let first = both-passed (listsChecks s) own (count .0) in
+      record { lists = first .0; after-lists = first .1; taken = count .1; values = value .1; few = last .1 }
 
-  -- from the verdict on the checks of a pass
-  pub pass-accepted : (g shortest named lent : ℕ) → passVerdict limit s g shortest named lent ≡ accepted
-      → PassAccepted limit s g shortest named lent
-  unfolding passVerdict firstFailure
-  pass-accepted g shortest named lent e =
-      let compared = rest-passed (sameLengths s) _ _ e in
-      let marks = after-marks _ (check-passed (sameLengths s) _ _ e) (rest-passed (leb g mostGap) _ _ compared) in
-      let listed = rest-passed (leb (length (s .places)) shortest) _ _ (marks .1) in
-      record {
-        entered = marks .0;
-        gap-narrow = leb-true _ _ (check-passed (leb g mostGap) _ _ compared);
-        list-long = leb-true _ _ (check-passed (leb (length (s .places)) shortest) _ _ (marks .1));
-        work-long = leb-true _ _ (check-passed (leb named lent) _ _ listed);
-      }
+  pass-each : Passed own limit s → firstFailure (entryChecks own limit s) ≡ accepted
+  pass-each p =
+      let first = all-passed (listsChecks s) own (p .lists) (p .after-lists) in
+      let count = all-passed to-own (countChecks mostMarks s) first (p .taken) in
+      let value = all-passed to-count (valueChecks s) count (p .values) in
+      all-passed to-values (countChecks limit s) value (p .few)
 
--- a strip of which the checks' tests hold passes them
-pub accepted-entry : (limit : ℕ) (s : Strip) → Accepted limit s → entry limit s ≡ accepted
-unfolding entry firstFailure
-accepted-entry limit s a =
-    rw (
-      eq-eqb (length (s .places)) (length (s .lengths)) (a .same-lengths),
-      eq-eqb (length (s .places)) (length (s .weights)) (a .same-weights),
-      le-leb (length (s .places)) limit (a .few),
-      a .places-good,
-      a .places-rise,
-      a .lengths-good,
-      a .weights-good,
-    )
-    refl
+-- what they say of the strip
+from-checks : (own : List Check) (limit : ℕ) (s : Strip) → Passed own limit s → Accepted limit s
+from-checks own limit s p =
+    let lengths-equal = eqb (length (s .places)) (length (s .lengths)) in
+    let weights-equal = eqb (length (s .places)) (length (s .weights)) in
+    let same = one-passed _ (p .lists) in
+    let good = one-passed _ (p .values) in
+    let places = and-fst (goodPlaces (s .places)) (goodLabels (s .lengths) (s .weights)) good in
+    let labels = and-snd (goodPlaces (s .places)) (goodLabels (s .lengths) (s .weights)) good in
+    record {
+      same-lengths = eqb-true _ _ (and-fst lengths-equal weights-equal same);
+      same-weights = eqb-true _ _ (and-snd lengths-equal weights-equal same);
+      few = leb-true _ _ (one-passed _ (p .few));
+      places-good = and-fst (every placeInRange (s .places)) (rising (s .places)) places;
+      places-rise = and-snd (every placeInRange (s .places)) (rising (s .places)) places;
+      lengths-good = and-fst (every lengthInRange (s .lengths)) (every weightInRange (s .weights)) labels;
+      weights-good = and-snd (every lengthInRange (s .lengths)) (every weightInRange (s .weights)) labels;
+    }
+
+-- from the verdict on entry
+on-entry : (limit : ℕ) (s : Strip) → entry limit s ≡ accepted → Passed [] limit s
+unfolding entry
+on-entry limit s e = each-passed [] limit s e
+
+pub entry-accepted : (limit : ℕ) (s : Strip) → entry limit s ≡ accepted → Accepted limit s
+entry-accepted limit s e = from-checks [] limit s (on-entry limit s e)
+
+-- from the verdict on the checks of a pass
+pub pass-accepted : (limit : ℕ) (s : Strip) (g shortest named lent : ℕ) → passVerdict limit s g shortest named lent ≡ accepted
+    → PassAccepted limit s g shortest named lent
+unfolding passVerdict
+pass-accepted limit s g shortest named lent e =
+    let answers = answerChecks (length (s .places)) shortest in
+    let last = both-passed (entryChecks (gapChecks g) limit s ++ answers) (workChecks named lent) e in
+    let lists = both-passed (entryChecks (gapChecks g) limit s) answers (last .0) in
+    let p = each-passed (gapChecks g) limit s (lists .0) in
+    record {
+      entered = from-checks (gapChecks g) limit s p;
+      gap-narrow = leb-true _ _ (one-passed _ (p .after-lists));
+      list-long = leb-true _ _ (one-passed _ (lists .1));
+      work-long = leb-true _ _ (one-passed _ (last .1));
+    }
+
+-- a strip of which the checks' tests hold passes them, if the call takes no more marks than any
+pub accepted-entry : (limit : ℕ) (s : Strip) → limit ≤ mostMarks → Accepted limit s → entry limit s ≡ accepted
+unfolding entry
+accepted-entry limit s most a =
+    let places = both (every placeInRange (s .places)) (rising (s .places)) (a .places-good) (a .places-rise) in
+    let labels = both (every lengthInRange (s .lengths)) (every weightInRange (s .weights)) (a .lengths-good) (a .weights-good) in
+    pass-each [] limit s
+    (record {
+      lists = pass-one _ (both _ _ (eq-eqb _ _ (a .same-lengths)) (eq-eqb _ _ (a .same-weights)));
+      after-lists = pass-none;
+      taken = pass-one _ (le-leb (length (s .places)) mostMarks (omega (arith, a .few)));
+      values = pass-one _ (both _ _ places labels);
+      few = pass-one _ (le-leb _ _ (a .few));
+    })
 
 -- and those of a pass too where the gap is narrow and there is room
 pub accept-pass : (limit : ℕ) (s : Strip) (g shortest named lent : ℕ) → entry limit s ≡ accepted → g ≤ mostGap
     → length (s .places) ≤ shortest → named ≤ lent → passVerdict limit s g shortest named lent ≡ accepted
-unfolding passVerdict firstFailure
+unfolding passVerdict
 accept-pass limit s g shortest named lent e narrow h k =
-    let a = entry-accepted limit s e in
-    rw (
-      eq-eqb (length (s .places)) (length (s .lengths)) (a .same-lengths),
-      eq-eqb (length (s .places)) (length (s .weights)) (a .same-weights),
-      le-leb g mostGap narrow,
-      le-leb (length (s .places)) limit (a .few),
-      a .places-good,
-      a .places-rise,
-      a .lengths-good,
-      a .weights-good,
-      le-leb (length (s .places)) shortest h,
-      le-leb named lent k,
-    )
-    refl
+    let p = on-entry limit s e in
+    let passed : Passed (gapChecks g) limit s =
+    record { lists = p .lists; after-lists = pass-one _ (le-leb _ _ narrow); taken = p .taken; values = p .values; few = p .few } in
+    let checks = entryChecks (gapChecks g) limit s in
+    let answers = answerChecks (length (s .places)) shortest in
+    let listed = all-passed checks answers (pass-each (gapChecks g) limit s passed) (pass-one _ (le-leb _ _ h)) in
+    all-passed (checks ++ answers) (workChecks named lent) listed (pass-one _ (le-leb _ _ k))
 
 -- and a call that takes fewer marks, but not fewer than it has, accepts it too
 pub accept-shorter : (limit fewer : ℕ) (s : Strip) → entry limit s ≡ accepted → length (s .places) ≤ fewer → entry fewer s ≡ accepted
+unfolding entry
 accept-shorter limit fewer s e h =
-    let a = entry-accepted limit s e in
-    accepted-entry fewer s
-    (record {
-      same-lengths = a .same-lengths;
-      same-weights = a .same-weights;
-      few = h;
-      places-good = a .places-good;
-      places-rise = a .places-rise;
-      lengths-good = a .lengths-good;
-      weights-good = a .weights-good;
-    })
+    all-passed (to-values [] limit s) (countChecks fewer s) (both-passed (to-values [] limit s) (countChecks limit s) e .0) (pass-one _ (le-leb _ _ h))
 
 -- every element of a good list is good
 pub every-at : {A : Type 0} (p : A → Bool) (xs : List A) (d : A) (i : ℕ) → every p xs ≡ true → i < length xs → p (getD xs i d) ≡ true

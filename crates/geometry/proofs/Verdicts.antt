@@ -1,37 +1,21 @@
--- The number of a verdict tells acceptance from refusal, since no refusal has the number 0. The first failure of a list of checks followed
--- by more checks is that of the first list if it has one, else that of the second. The checks of a pass before its work never give 11: each
+-- The number of a verdict tells acceptance from refusal, since no refusal has the number 0. A list of checks followed by more checks has
+-- the first failure of the first list, if there is one, else that of the second. The checks of a pass before its work never give 11: each
 -- has its own number, and 11 is none of them.
-use mathlib.Core.Path.{_≡_, refl, _∙_, ap}
-use mathlib.Core.Bool.{Bool, true, false}
+use mathlib.Core.Path.{_≡_, refl, sym, _∙_, ap}
+use mathlib.Core.Bool.{Bool, true, false, not}
 use mathlib.Core.List.{List, [], _∷_, _++_}
 use Prim.Native.Nat.{ℕ}
 use native.Mathlib.Omega.{arith}
-use lib.Dec.{leb}
-use lib.ListN.{length}
+use lib.Dec.{eqb}
+use borrow.Author.Tests.{eqb-false, not-true}
+use Rattle.geometry.specs.Lists.{every}
 use Rattle.geometry.specs.Strip.{Strip}
-use Rattle.geometry.specs.Entry.{sameLengths, goodMarks}
-use Rattle.geometry.specs.Pass.{mostGap, passVerdict}
+use Rattle.geometry.specs.Pass.{passVerdict}
 use Rattle.geometry.specs.Refusal.{Refusal, bytesEnd, strayBit, absentValue, outOfRange, bytesLeftOver, listsUnequal, tooManyMarks}
 use Rattle.geometry.specs.Refusal.{badMark, listTooShort, workTooShort, noPlacing, gapTooWide, refusalNumber}
 use Rattle.geometry.specs.Refusal.{Verdict, accepted, refused, numberOf, Check, afterCheck, firstFailure}
-use Rattle.geometry.specs.inner.OnEntry.{then}
-
--- a check before two verdicts is a check before the first of them
-after-then : (t : Bool) (r : Refusal) (v w : Verdict) → afterCheck t r (then v w) ≡ then (afterCheck t r v) w
-after-then true r v w = refl
-after-then false r v w = refl
-
--- the first failure of two lists of checks
-pub failure-append : (cs ds : List Check) → firstFailure (cs ++ ds) ≡ then (firstFailure cs) (firstFailure ds)
-unfolding firstFailure
-failure-append [] ds = refl
-failure-append (c ∷ cs) ds =
-    ap (afterCheck (c .passes) (c .otherwise)) (failure-append cs ds) ∙ after-then (c .passes) (c .otherwise) (firstFailure cs) (firstFailure ds)
-
--- and of three
-pub three-failures : (cs ds es : List Check)
-    → firstFailure (cs ++ ds ++ es) ≡ then (then (firstFailure cs) (firstFailure ds)) (firstFailure es)
-three-failures cs ds es = failure-append (cs ++ ds) es ∙ ap (λ (v : Verdict). then v (firstFailure es)) (failure-append cs ds)
+use Rattle.geometry.specs.inner.OnEntry.{numberOfChecks}
+use Rattle.geometry.proofs.Split.{by-bool, and-fst, and-snd}
 
 -- no refusal has the number 0
 pub refusal-positive : (r : Refusal) → refusalNumber r ≡ 0 → ⊥
@@ -53,28 +37,96 @@ pub zero-accepted : (v : Verdict) → numberOf v ≡ 0 → v ≡ accepted
 zero-accepted accepted e = refl
 zero-accepted (refused r) e = absurd (refusal-positive r e)
 
--- the number of a refusal stands, and after acceptance the number is that of what follows
-pub number-stands : (v w : Verdict) → (numberOf v ≡ 0 → ⊥) → numberOf (then v w) ≡ numberOf v
-number-stands accepted w n = absurd (n refl)
-number-stands (refused r) w n = refl
+-- no refusal is acceptance
+refused-other : (r : Refusal) → refused r ≡ accepted → ⊥
+refused-other r e = refusal-positive r (ap numberOf e)
 
-pub number-passes : (v w : Verdict) → numberOf v ≡ 0 → numberOf (then v w) ≡ numberOf w
-number-passes v w e = rw (zero-accepted v e) refl
+-- one verdict and then another: a refusal stands, whatever would follow
+abbrev pub then : Verdict → Verdict → Verdict
+then accepted w = w
+then (refused r) w = refused r
 
--- a check adds no 11 if its own refusal is another
-after-not-11 : (t : Bool) (r : Refusal) (v : Verdict) → (refusalNumber r ≡ refusalNumber noPlacing → ⊥)
-    → (numberOf v ≡ refusalNumber noPlacing → ⊥) → numberOf (afterCheck t r v) ≡ refusalNumber noPlacing → ⊥
-after-not-11 true r v this others = others
-after-not-11 false r v this others = this
+-- a check before two verdicts is a check before the first of them
+after-then : (t : Bool) (r : Refusal) (v w : Verdict) → afterCheck t r (then v w) ≡ then (afterCheck t r v) w
+after-then true r v w = refl
+after-then false r v w = refl
+
+-- the first failure of two lists of checks
+pub failure-append : (cs ds : List Check) → firstFailure (cs ++ ds) ≡ then (firstFailure cs) (firstFailure ds)
+unfolding firstFailure
+failure-append [] ds = refl
+failure-append (c ∷ cs) ds =
+    ap (afterCheck (c .passes) (c .otherwise)) (failure-append cs ds) ∙ after-then (c .passes) (c .otherwise) (firstFailure cs) (firstFailure ds)
+
+then-stands : (v w : Verdict) → (numberOf v ≡ 0 → ⊥) → numberOf (then v w) ≡ numberOf v
+then-stands accepted w some = absurd (some refl)
+then-stands (refused r) w some = refl
+
+then-accepted : (v w : Verdict) → then v w ≡ accepted → (v ≡ accepted) × (w ≡ accepted)
+then-accepted accepted w e = (refl, e)
+then-accepted (refused r) w e = absurd (refused-other r e)
+
+module _ (cs ds : List Check) where
+  -- the number of the first list stands if it is a refusal
+  pub number-stands : {number : ℕ} → number ≡ numberOfChecks cs → (number ≡ 0 → ⊥) → number ≡ numberOfChecks (cs ++ ds)
+  number-stands is some = rw (failure-append cs ds, then-stands _ (firstFailure ds) (λ none. some (is ∙ none))) is
+
+  -- and else the number is that of the second
+  pub verdict-passes : firstFailure cs ≡ accepted → firstFailure (cs ++ ds) ≡ firstFailure ds
+  verdict-passes passed = rw (failure-append cs ds, passed) refl
+
+  pub number-passes : {first number : ℕ} → first ≡ numberOfChecks cs → first ≡ 0 → number ≡ numberOfChecks ds
+      → number ≡ numberOfChecks (cs ++ ds)
+  number-passes is none second = second ∙ sym (ap numberOf (verdict-passes (zero-accepted _ (sym is ∙ none))))
+
+  -- both are passed where all checks are, and all where both are
+  pub both-passed : firstFailure (cs ++ ds) ≡ accepted → (firstFailure cs ≡ accepted) × (firstFailure ds ≡ accepted)
+  both-passed e = then-accepted (firstFailure cs) (firstFailure ds) (sym (failure-append cs ds) ∙ e)
+
+  pub all-passed : firstFailure cs ≡ accepted → firstFailure ds ≡ accepted → firstFailure (cs ++ ds) ≡ accepted
+  all-passed first second = verdict-passes first ∙ second
+
+-- so lists of checks with equal verdicts are followed by equal ones, and a refusal by none
+pub same-then : (cs ds es : List Check) → firstFailure cs ≡ firstFailure ds → firstFailure (cs ++ es) ≡ firstFailure (ds ++ es)
+same-then cs ds es same = failure-append cs es ∙ ap (λ (v : Verdict). then v (firstFailure es)) same ∙ sym (failure-append ds es)
+
+pub refusal-stands : (cs ds : List Check) (r : Refusal) → firstFailure cs ≡ refused r → firstFailure (cs ++ ds) ≡ refused r
+refusal-stands cs ds r e = rw (failure-append cs ds, e) refl
+
+-- no check
+pub pass-none : firstFailure [] ≡ accepted
+unfolding firstFailure
+pass-none = refl
+
+-- one check
+pub one-passed : (c : Check) → firstFailure (c ∷ []) ≡ accepted → c .passes ≡ true
+unfolding firstFailure
+one-passed c =
+    by-bool (c .passes) (λ t. afterCheck t (c .otherwise) accepted ≡ accepted → t ≡ true) (λ _ _. refl)
+    (λ _ e. absurd (refused-other (c .otherwise) e))
+
+pub pass-one : (c : Check) → c .passes ≡ true → firstFailure (c ∷ []) ≡ accepted
+unfolding firstFailure
+pass-one c e = rw e refl
+
+-- whether a check's refusal is another than 11
+abbrev not11 : Check → Bool
+not11 c = not (eqb (refusalNumber (c .otherwise)) (refusalNumber noPlacing))
+
+-- checks whose refusals are all others do not give it
+after-not-11 : (c : Check) (v : Verdict) → not11 c ≡ true → (numberOf v ≡ refusalNumber noPlacing → ⊥)
+    → numberOf (afterCheck (c .passes) (c .otherwise) v) ≡ refusalNumber noPlacing → ⊥
+after-not-11 c v other others =
+    by-bool (c .passes) (λ t. numberOf (afterCheck t (c .otherwise) v) ≡ refusalNumber noPlacing → ⊥) (λ _. others)
+    (λ _. eqb-false _ _ (not-true (eqb (refusalNumber (c .otherwise)) (refusalNumber noPlacing)) other))
+
+none-is-11 : (cs : List Check) → every not11 cs ≡ true → numberOfChecks cs ≡ refusalNumber noPlacing → ⊥
+unfolding every firstFailure
+none-is-11 [] e = omega arith
+none-is-11 (c ∷ cs) e = after-not-11 c (firstFailure cs) (and-fst (not11 c) (every not11 cs) e) (none-is-11 cs (and-snd (not11 c) (every not11 cs) e))
 
 -- so no check of a pass before its work gives 11
 pub pass-not-11 : (limit : ℕ) (s : Strip) (g shortest named lent : ℕ)
     → numberOf (passVerdict limit s g shortest named lent) ≡ refusalNumber noPlacing → ⊥
-unfolding passVerdict firstFailure
-pass-not-11 limit s g shortest named lent =
-    after-not-11 (sameLengths s) _ _ (λ e. omega arith)
-    (after-not-11 (leb g mostGap) _ _ (λ e. omega arith)
-    (after-not-11 (leb (length (s .places)) limit) _ _ (λ e. omega arith)
-    (after-not-11 (goodMarks s) _ _ (λ e. omega arith)
-    (after-not-11 (leb (length (s .places)) shortest) _ _ (λ e. omega arith)
-    (after-not-11 (leb named lent) _ _ (λ e. omega arith) (λ e. omega arith))))))
+unfolding passVerdict every
+pass-not-11 limit s g shortest named lent = none-is-11 _ refl

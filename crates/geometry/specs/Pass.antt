@@ -2,10 +2,9 @@
 -- than named"; and lent memory afterwards.
 use Prim.Native.Nat.{ℕ}
 use mathlib.Core.List.{List, [], _∷_, _++_}
-use lib.Dec.{leb}
 use lib.ListN.{length, drop, replicate}
 use Rattle.geometry.specs.Strip.{Strip}
-use Rattle.geometry.specs.Refusal.{Check, Verdict, accepted, refused, firstFailure, gapTooWide, listTooShort, workTooShort}
+use Rattle.geometry.specs.Refusal.{Check, Verdict, accepted, refused, atMost, firstFailure, gapTooWide, listTooShort, workTooShort}
 use Rattle.geometry.specs.Entry.{entryChecks}
 
 -- "The passes take a gap, 0 to 8 dots." (document 02, P2)
@@ -14,18 +13,20 @@ mostGap = 8
 
 -- "12, gap over 8, tested by the passes right after 6"
 abbrev pub gapChecks : ℕ → List Check
-gapChecks g = record { passes = leb g mostGap; otherwise = gapTooWide } ∷ []
+gapChecks g = atMost g mostGap gapTooWide ∷ []
 
--- 9 and 10 for so many marks: the shortest answer list and the work area have the lengths shortest and lent, and the part of the work
--- area that document 01 names has the length named
-abbrev pub lentChecks : ℕ → ℕ → ℕ → ℕ → List Check
-lentChecks marks shortest named lent =
-    record { passes = leb marks shortest; otherwise = listTooShort } ∷ record { passes = leb named lent; otherwise = workTooShort } ∷ []
+-- 9: the shortest answer list has the length shortest
+abbrev pub answerChecks : ℕ → ℕ → List Check
+answerChecks marks shortest = atMost marks shortest listTooShort ∷ []
 
--- checks 6, 12 and 7 to 10 of a pass that takes at most limit marks, at a gap of g dots
+-- 10: the work area has the length lent, and the part of it that document 01 names the length named
+abbrev pub workChecks : ℕ → ℕ → List Check
+workChecks named lent = atMost named lent workTooShort ∷ []
+
+-- the checks 6 to 10 and 12 of a pass that takes at most limit marks, at a gap of g dots
 unfoldable pub passVerdict : ℕ → Strip → ℕ → ℕ → ℕ → ℕ → Verdict
 passVerdict limit s g shortest named lent =
-    firstFailure (entryChecks (gapChecks g) limit s ++ lentChecks (length (s .places)) shortest named lent)
+    firstFailure (entryChecks (gapChecks g) limit s ++ answerChecks (length (s .places)) shortest ++ workChecks named lent)
 
 -- "unchanged beyond their used part": a lent list whose used part holds xs
 abbrev pub written {ℓ} : {A : Type ℓ} → List A → List A → List A

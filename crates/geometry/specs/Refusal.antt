@@ -3,6 +3,7 @@
 use Prim.Native.Nat.{ℕ}
 use mathlib.Core.List.{List, [], _∷_}
 use mathlib.Core.Bool.{Bool, true, false}
+use lib.Dec.{leb}
 
 pub data Refusal : Type 0 where
   bytesEnd : Refusal
@@ -45,6 +46,10 @@ numberOf (refused r) = refusalNumber r
 pub record Check : Type 0 where
   pub passes : Bool
   pub otherwise : Refusal
+
+-- the check that a count is at most so many
+abbrev pub atMost : ℕ → ℕ → Refusal → Check
+atMost count most r = record { passes = leb count most; otherwise = r }
 
 abbrev pub afterCheck : Bool → Refusal → Verdict → Verdict
 afterCheck true r v = v

@@ -1,17 +1,18 @@
-// The checks on entry: 6 mark lists of unequal length, then 12 a gap over 8, which only the passes test, then 7 too many marks, then 8 a
-// value out of range or places not rising.
+// The checks on entry: 6 mark lists of unequal length, then 12 a gap over 8, which only the passes test, then 7 over 4,000 marks, then 8 a
+// value out of range or places not rising, then 7 more marks than the call takes.
 ghost use mathlib.Core.Path.{_≡_};
 ghost use lib.Signed.{ltZ};
 ghost use Rattle.geometry.specs.Lists.{every};
 ghost use Rattle.geometry.specs.Mark.{placeInRange, lengthInRange, weightInRange, rising};
 ghost use Rattle.geometry.specs.Strip.{strip};
-ghost use Rattle.geometry.specs.Entry.{sameLengths, goodPlaces, goodLabels, goodMarks, listsChecks};
+ghost use Rattle.geometry.specs.Entry.{sameLengths, goodPlaces, goodLabels, goodMarks, listsChecks, valueChecks};
 ghost use Rattle.geometry.specs.Pass.{gapChecks, passVerdict};
-ghost use Rattle.geometry.specs.Refusal.{numberOf, firstFailure};
-ghost use Rattle.geometry.specs.inner.OnEntry.{FirstNumber, NumberOnEntry};
+ghost use Rattle.geometry.specs.Refusal.{numberOf};
+ghost use Rattle.geometry.specs.inner.OnEntry.{numberOfChecks, CountNumber, FirstNumber, NumberOnEntry};
 use crate::limits::LEAST_PLACE;
 use crate::limits::MOST_GAP;
 use crate::limits::MOST_LENGTH;
+use crate::limits::MOST_MARKS;
 use crate::limits::MOST_PLACE;
 use crate::limits::MOST_WEIGHT;
 use crate::refusal::BAD_MARK;
@@ -127,7 +128,7 @@ fn good_marks(places: &[i16], lengths: &[u8], weights: &[u16]) -> bool
 
 // 6 for lists of unequal length, else 0.
 fn check_lists(places: &[i16], lengths: &[u8], weights: &[u16]) -> u8
-    ensures { λ r. ⌜ r ≡ numberOf (firstFailure (listsChecks (strip (now (places .entry)) (now (lengths .entry)) (now (weights .entry))))) ⌝ }
+    ensures { λ r. ⌜ r ≡ numberOfChecks (listsChecks (strip (now (places .entry)) (now (lengths .entry)) (now (weights .entry)))) ⌝ }
 {
     if !same_lengths(places, lengths, weights) {
         return LISTS_UNEQUAL;
@@ -137,10 +138,30 @@ fn check_lists(places: &[i16], lengths: &[u8], weights: &[u16]) -> u8
 
 // 12 for a gap that is too wide, else 0.
 fn check_gap(gap: u8) -> u8
-    ensures { λ r. ⌜ r ≡ numberOf (firstFailure (gapChecks gap)) ⌝ }
+    ensures { λ r. ⌜ r ≡ numberOfChecks (gapChecks gap) ⌝ }
 {
     if MOST_GAP < gap {
         return GAP_TOO_WIDE;
+    }
+    0
+}
+
+// 8 for a mark that is out of its range or does not rise, else 0.
+fn check_values(places: &[i16], lengths: &[u8], weights: &[u16]) -> u8
+    ensures { λ r. ⌜ r ≡ numberOfChecks (valueChecks (strip (now (places .entry)) (now (lengths .entry)) (now (weights .entry)))) ⌝ }
+{
+    if !good_marks(places, lengths, weights) {
+        return BAD_MARK;
+    }
+    0
+}
+
+// The number `refused` for a count over `most`, else 0.
+fn check_count(count: usize, most: usize, refused: u8) -> u8
+    ensures { λ r. ⌜ CountNumber count most refused r ⌝ }
+{
+    if most < count {
+        return refused;
     }
     0
 }
@@ -156,22 +177,18 @@ fn first_refusal(first: u8, second: u8) -> u8
 }
 
 // The number of the first check on entry that is not passed, 0 if all are, for a call that takes at most `limit` marks. `own` is what
-// the checks that the call makes right after 6 have given; a call that makes none hands over 0.
+// the checks that the call makes right after 6 have given; a call that makes none hands over 0. The values of a strip that no call takes
+// are not looked at.
 pub fn check_marks(places: &[i16], lengths: &[u8], weights: &[u16], own: u8, limit: usize) -> u8
     ensures { λ r. ⌜ NumberOnEntry own limit (strip (now (places .entry)) (now (lengths .entry)) (now (weights .entry))) r ⌝ }
 {
-    let lists = check_lists(places, lengths, weights);
-    let refused = first_refusal(lists, own);
+    let lists = first_refusal(check_lists(places, lengths, weights), own);
+    let refused = first_refusal(lists, check_count(places.len(), MOST_MARKS, TOO_MANY_MARKS));
     if refused != 0 {
         return refused;
     }
-    if limit < places.len() {
-        return TOO_MANY_MARKS;
-    }
-    if !good_marks(places, lengths, weights) {
-        return BAD_MARK;
-    }
-    0
+    let values = check_values(places, lengths, weights);
+    first_refusal(values, check_count(places.len(), limit, TOO_MANY_MARKS))
 }
 
 // The same at a gap, with the checks on lent memory behind them: 9 where the shortest answer list, of `shortest` elements, is shorter than
@@ -191,14 +208,6 @@ pub fn check_pass(
         gap shortest named lent) ⌝ }
 {
     let entry = check_marks(places, lengths, weights, check_gap(gap), limit);
-    if entry != 0 {
-        return entry;
-    }
-    if shortest < places.len() {
-        return LIST_TOO_SHORT;
-    }
-    if lent < named {
-        return WORK_TOO_SHORT;
-    }
-    0
+    let answers = first_refusal(entry, check_count(places.len(), shortest, LIST_TOO_SHORT));
+    first_refusal(answers, check_count(named, lent, WORK_TOO_SHORT))
 }

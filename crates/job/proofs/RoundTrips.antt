@@ -109,7 +109,7 @@ module _ (shortest : ℕ) (job : List ℕ) (s : Strip) (read : decode shortest j
     -- and the writer takes its marks
     pub read-accepted : entry mostMarks s ≡ accepted
     read-accepted =
-        accepted-entry mostMarks s
+        accepted-entry mostMarks s (omega arith)
         (after-accepted mostMarks true (parts .header .place) (s .places) (s .lengths) (s .weights) (omega (arith, counted, parts .header-good .few))
         (back .marks-after))
 

@@ -17,10 +17,12 @@ fn in_range(places: &[i16], lengths: &[u8], weights: &[u16]) -> bool {
 pub fn check_marks(places: &[i16], lengths: &[u8], weights: &[u16], most: usize) -> u8 {
     if places.len() != lengths.len() || places.len() != weights.len() {
         6
-    } else if places.len() > most {
+    } else if places.len() > 4_000 {
         7
     } else if !in_range(places, lengths, weights) {
         8
+    } else if places.len() > most {
+        7
     } else {
         0
     }

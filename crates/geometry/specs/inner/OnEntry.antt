@@ -1,21 +1,26 @@
--- What the functions that make the checks on entry give one another.
+-- What the functions that make the checks give one another: numbers, each that of the first check of a list that is not passed, 0 if all
+-- are.
 use Prim.Native.Nat.{ℕ}
 use mathlib.Core.Path.{_≡_}
-use mathlib.Core.List.{List}
+use mathlib.Core.List.{List, [], _∷_, _++_}
 use Rattle.geometry.specs.Strip.{Strip}
-use Rattle.geometry.specs.Refusal.{Check, Verdict, accepted, refused, numberOf, firstFailure}
+use Rattle.geometry.specs.Refusal.{Refusal, refusalNumber, Check, atMost, numberOf, firstFailure}
 use Rattle.geometry.specs.Entry.{entryChecks}
 
--- one verdict and then another: a refusal stands, whatever would follow
-abbrev pub then : Verdict → Verdict → Verdict
-then accepted w = w
-then (refused r) w = refused r
+-- the number of such a list
+abbrev pub numberOfChecks : List Check → ℕ
+numberOfChecks checks = numberOf (firstFailure checks)
 
--- the number of the two, from the number of each
+-- the number of the check that a count is at most so many, from the two and the number of its refusal
+abbrev pub CountNumber : ℕ → ℕ → ℕ → ℕ → Type 0
+CountNumber count most refused number =
+    (n m : ℕ) (r : Refusal) → (count ≡ n) × (most ≡ m) × (refused ≡ refusalNumber r) → number ≡ numberOfChecks (atMost n m r ∷ [])
+
+-- the number of two lists of checks one after the other, from the number of each
 abbrev pub FirstNumber : ℕ → ℕ → ℕ → Type 0
-FirstNumber first second number = (v w : Verdict) → first ≡ numberOf v → second ≡ numberOf w → number ≡ numberOf (then v w)
+FirstNumber first second number =
+    (cs ds : List Check) → first ≡ numberOfChecks cs → second ≡ numberOfChecks ds → number ≡ numberOfChecks (cs ++ ds)
 
 -- the number that the checks on entry give where a call's own checks, those right after 6, have given the number own
 abbrev pub NumberOnEntry : ℕ → ℕ → Strip → ℕ → Type 0
-NumberOnEntry own limit s number =
-    (checks : List Check) → own ≡ numberOf (firstFailure checks) → number ≡ numberOf (firstFailure (entryChecks checks limit s))
+NumberOnEntry own limit s number = (checks : List Check) → own ≡ numberOfChecks checks → number ≡ numberOfChecks (entryChecks checks limit s)
