@@ -5,7 +5,6 @@ use crate::near::{any_strip, some_strip};
 use crate::random::Random;
 use crate::strips::{fitting_strip, Shape, Strip};
 use crate::{best, full, job, slide};
-use std::cell::Cell;
 use std::fmt::Debug;
 
 // Runs one group: `make` gives a case, `compare` the number that both sides agree on or what differs.
@@ -106,26 +105,25 @@ fn many_left_out_call(random: &mut Random, limits: &Limits) -> Call {
     some_call(random, strip, gap, limits, false)
 }
 
-// Long strip or bad mark: 60, 61, 4,000 and 4,001 marks that fit, all good or with one fault, each pair as often as the others.
-fn counted_strip(random: &mut Random, turn: &Cell<usize>, gap: u8) -> Strip {
-    let at = turn.replace(turn.get() + 1);
-    let marks = [60, 61, 4_000, 4_001][at % 4];
+// Long strip or bad mark: 60, 61, 4,000 or 4,001 marks that fit, all good or with one fault.
+fn counted_strip(random: &mut Random, gap: u8) -> Strip {
+    let marks = [60, 61, 4_000, 4_001][random.below(4)];
     let mut strip = fitting_strip(random, marks, Shape { step: 14, length: 10 }, gap);
     assert_eq!(strip.places.len(), marks);
-    if let Some(fault) = FAULTS.get(at / 4 % 5) {
+    if let Some(fault) = FAULTS.get(random.below(FAULTS.len() + 1)) {
         spoil(random, &mut strip, *fault);
     }
     strip
 }
 
-fn counted_call(random: &mut Random, turn: &Cell<usize>, limits: &Limits) -> Call {
+fn counted_call(random: &mut Random, limits: &Limits) -> Call {
     let gap = some_gap(random);
-    let strip = counted_strip(random, turn, gap);
+    let strip = counted_strip(random, gap);
     some_call(random, strip, gap, limits, false)
 }
 
-fn counted_job(random: &mut Random, turn: &Cell<usize>) -> WriteCase {
-    WriteCase { strip: counted_strip(random, turn, 0), room: 30_000 }
+fn counted_job(random: &mut Random) -> WriteCase {
+    WriteCase { strip: counted_strip(random, 0), room: 30_000 }
 }
 
 #[derive(Debug)]
@@ -171,19 +169,17 @@ const BEST_FEW: &[u8] = &[0, 6, 8, 9, 10, 12];
 const BEST_MANY: &[u8] = &[0, 6, 7, 8, 9, 10, 12];
 
 // How a call for a pass with these limits is made.
-trait Make: Fn(&mut Random, &Limits) -> Call {}
+type Make = fn(&mut Random, &Limits) -> Call;
 
-impl<F: Fn(&mut Random, &Limits) -> Call> Make for F {}
-
-fn full_group(name: &str, seed: u64, cases: usize, numbers: &[u8], make: impl Make, first: full::Search) -> usize {
+fn full_group(name: &str, seed: u64, cases: usize, numbers: &[u8], make: Make, first: full::Search) -> usize {
     group(name, seed, cases, numbers, |r| make(r, &full::LIMITS), |r, c| full::compare(r, c, first))
 }
 
-fn slide_group(name: &str, seed: u64, cases: usize, numbers: &[u8], make: impl Make, fits: slide::Search) -> usize {
+fn slide_group(name: &str, seed: u64, cases: usize, numbers: &[u8], make: Make, fits: slide::Search) -> usize {
     group(name, seed, cases, numbers, |r| make(r, &slide::LIMITS), |r, c| slide::compare(r, c, fits))
 }
 
-fn best_group(name: &str, seed: u64, cases: usize, numbers: &[u8], make: impl Make, best_sum: best::Search) -> usize {
+fn best_group(name: &str, seed: u64, cases: usize, numbers: &[u8], make: Make, best_sum: best::Search) -> usize {
     group(name, seed, cases, numbers, |r| make(r, &best::LIMITS), |r, c| best::compare(r, c, best_sum))
 }
 
@@ -200,8 +196,6 @@ fn to_10(random: &mut Random, limits: &Limits) -> Call {
 }
 
 pub fn run_all() -> usize {
-    let turn = Cell::new(0);
-    let counted = |random: &mut Random, limits: &Limits| counted_call(random, &turn, limits);
     let reader = |random: &mut Random, case: &ReadCase| job::compare_read(random, &case.bytes, case.rooms);
     let writer = |random: &mut Random, case: &WriteCase| job::compare_write(random, &case.strip, case.room);
     [
@@ -217,10 +211,10 @@ pub fn run_all() -> usize {
         best_group("best, to 60 marks, all reaches", 8, 1_500, BEST_MANY, large_call, best::by_reaches),
         best_group("best, strips 7, 8, 9 and 11, plain search", 16, 500, BEST_FEW, worked_call, best::by_plain_search),
         best_group("best, all but four left out, all reaches", 13, 1_500, &[0], many_left_out_call, best::by_reaches),
-        full_group("full, long strip or bad mark", 17, 500, &[0, 7, 8], counted, full::by_dead_ends),
-        slide_group("slide, long strip or bad mark", 18, 500, &[0, 7, 8], counted, slide::by_reaches),
-        best_group("best, long strip or bad mark", 19, 500, &[0, 7, 8], counted, best::by_reaches),
-        group("write, long strip or bad mark", 20, 500, &[0, 7, 8], |r| counted_job(r, &turn), writer),
+        full_group("full, long strip or bad mark", 17, 500, &[0, 7, 8], counted_call, full::by_dead_ends),
+        slide_group("slide, long strip or bad mark", 18, 500, &[0, 7, 8], counted_call, slide::by_reaches),
+        best_group("best, long strip or bad mark", 19, 500, &[0, 7, 8], counted_call, best::by_reaches),
+        group("write, long strip or bad mark", 20, 500, &[0, 7, 8], counted_job, writer),
         group("read, to 40 marks", 9, 30_000, &[0, 1, 2, 3, 4, 5, 9], |r| read_case(r, 40), reader),
         group("read, to 4,000 marks", 10, 1_000, &[0, 1, 2, 3, 4, 5, 9], |r| read_case(r, 4_000), reader),
         group("write, to 40 marks", 11, 15_000, &[0, 6, 7, 8, 9], |r| write_case(r, 40), writer),

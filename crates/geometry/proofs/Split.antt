@@ -23,11 +23,16 @@ by-ltb a b P f g = by-bool (ltb a b) P (λ e. f (ltb-true a b e)) (λ e. g (ltb-
 pub by-eqb {ℓ} : (a b : ℕ) (P : Bool → Type ℓ) → (a ≡ b → P true) → ((a ≡ b → ⊥) → P false) → P (eqb a b)
 by-eqb a b P f g = by-bool (eqb a b) P (λ e. f (eqb-true a b e)) (λ e. g (eqb-false a b e))
 
--- two tests are equal if each holds where the other does; a test of less is one of at most, of the number after
+-- two tests are equal if each holds where the other does
+pub same-answer : (s t : Bool) → (s ≡ true → t ≡ true) → (t ≡ true → s ≡ true) → s ≡ t
+same-answer true t f g = sym (f refl)
+same-answer false true f g = g refl
+same-answer false false f g = refl
+
+-- of two comparisons this is said by numbers; a test of less is one of at most, of the number after
 pub same-test : (a b c d : ℕ) → (a ≤ b → c ≤ d) → (c ≤ d → a ≤ b) → leb a b ≡ leb c d
 same-test a b c d f g =
-    by-leb a b (λ t. t ≡ leb c d) (λ h. sym (le-leb c d (f h)))
-    (λ h. sym (by-leb c d (λ t. t ≡ false) (λ k. let k′ : a ≤ b = g k in absurd (omega arith)) (λ _. refl)))
+    same-answer (leb a b) (leb c d) (λ t. le-leb c d (f (leb-true a b t))) (λ t. le-leb a b (g (leb-true c d t)))
 
 -- at most the greater of two bounds: at most one of them
 pub leb-max : (o x y : ℕ) → leb o (max x y) ≡ (leb o x || leb o y)

@@ -4,18 +4,18 @@
 use mathlib.Core.Path.{_≡_, refl, sym, _∙_, ap}
 use mathlib.Core.Bool.{Bool, true, false, not}
 use mathlib.Core.List.{List, [], _∷_, _++_}
-use Prim.Native.Nat.{ℕ}
+use Prim.Native.Nat.{ℕ, _≤_}
 use native.Mathlib.Omega.{arith}
-use lib.Dec.{eqb}
-use borrow.Author.Tests.{eqb-false, not-true}
+use lib.Dec.{leb, eqb}
+use borrow.Author.Tests.{le-leb, leb-true, eqb-false, not-true}
 use Rattle.geometry.specs.Lists.{every}
 use Rattle.geometry.specs.Strip.{Strip}
 use Rattle.geometry.specs.Pass.{passVerdict}
 use Rattle.geometry.specs.Refusal.{Refusal, bytesEnd, strayBit, absentValue, outOfRange, bytesLeftOver, listsUnequal, tooManyMarks}
 use Rattle.geometry.specs.Refusal.{badMark, listTooShort, workTooShort, noPlacing, gapTooWide, refusalNumber}
-use Rattle.geometry.specs.Refusal.{Verdict, accepted, refused, numberOf, Check, afterCheck, firstFailure}
-use Rattle.geometry.specs.inner.OnEntry.{numberOfChecks}
-use Rattle.geometry.proofs.Split.{by-bool, and-fst, and-snd}
+use Rattle.geometry.specs.Refusal.{Verdict, accepted, refused, numberOf, Check, atMost, afterCheck, firstFailure}
+use Rattle.geometry.specs.inner.OnEntry.{numberOfChecks, CheckNumber}
+use Rattle.geometry.proofs.Split.{by-bool, same-answer, and-fst, and-snd}
 
 -- no refusal has the number 0
 pub refusal-positive : (r : Refusal) → refusalNumber r ≡ 0 → ⊥
@@ -108,6 +108,12 @@ one-passed c =
 pub pass-one : (c : Check) → c .passes ≡ true → firstFailure (c ∷ []) ≡ accepted
 unfolding firstFailure
 pass-one c e = rw e refl
+
+-- the number of the check that a count is at most so many, from a test that holds exactly where it is
+pub count-number : (n m : ℕ) (r : Refusal) {passes : Bool} {otherwise number : ℕ} → CheckNumber passes otherwise number
+    → (passes ≡ true → n ≤ m) × (n ≤ m → passes ≡ true) × (otherwise ≡ refusalNumber r) → number ≡ numberOfChecks (atMost n m r ∷ [])
+count-number n m r check (so, only-so, is) =
+    check (leb n m) r (same-answer _ _ (λ test. le-leb n m (so test)) (λ test. only-so (leb-true n m test))) is
 
 -- whether a check's refusal is another than 11
 abbrev not11 : Check → Bool

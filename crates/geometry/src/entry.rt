@@ -4,11 +4,11 @@ ghost use mathlib.Core.Path.{_≡_};
 ghost use lib.Signed.{ltZ};
 ghost use Rattle.geometry.specs.Lists.{every};
 ghost use Rattle.geometry.specs.Mark.{placeInRange, lengthInRange, weightInRange, rising};
-ghost use Rattle.geometry.specs.Strip.{strip};
-ghost use Rattle.geometry.specs.Entry.{sameLengths, goodPlaces, goodLabels, goodMarks, listsChecks, valueChecks};
-ghost use Rattle.geometry.specs.Pass.{gapChecks, passVerdict};
+ghost use Rattle.geometry.specs.Strip.{strip, mostMarks};
+ghost use Rattle.geometry.specs.Entry.{sameLengths, goodPlaces, goodLabels, goodMarks, entry};
+ghost use Rattle.geometry.specs.Pass.{passVerdict};
 ghost use Rattle.geometry.specs.Refusal.{numberOf};
-ghost use Rattle.geometry.specs.inner.OnEntry.{numberOfChecks, CountNumber, FirstNumber, NumberOnEntry};
+ghost use Rattle.geometry.specs.inner.OnEntry.{CheckNumber, FirstNumber, NumberOnEntry};
 use crate::limits::LEAST_PLACE;
 use crate::limits::MOST_GAP;
 use crate::limits::MOST_LENGTH;
@@ -126,44 +126,14 @@ fn good_marks(places: &[i16], lengths: &[u8], weights: &[u16]) -> bool
     good_places(places) && good_labels(lengths, weights)
 }
 
-// 6 for lists of unequal length, else 0.
-fn check_lists(places: &[i16], lengths: &[u8], weights: &[u16]) -> u8
-    ensures { λ r. ⌜ r ≡ numberOfChecks (listsChecks (strip (now (places .entry)) (now (lengths .entry)) (now (weights .entry)))) ⌝ }
+// The number of one check: 0 where it passes, else that of its refusal.
+fn check(passes: bool, otherwise: u8) -> u8
+    ensures { λ r. ⌜ CheckNumber passes otherwise r ⌝ }
 {
-    if !same_lengths(places, lengths, weights) {
-        return LISTS_UNEQUAL;
+    if passes {
+        return 0;
     }
-    0
-}
-
-// 12 for a gap that is too wide, else 0.
-fn check_gap(gap: u8) -> u8
-    ensures { λ r. ⌜ r ≡ numberOfChecks (gapChecks gap) ⌝ }
-{
-    if MOST_GAP < gap {
-        return GAP_TOO_WIDE;
-    }
-    0
-}
-
-// 8 for a mark that is out of its range or does not rise, else 0.
-fn check_values(places: &[i16], lengths: &[u8], weights: &[u16]) -> u8
-    ensures { λ r. ⌜ r ≡ numberOfChecks (valueChecks (strip (now (places .entry)) (now (lengths .entry)) (now (weights .entry)))) ⌝ }
-{
-    if !good_marks(places, lengths, weights) {
-        return BAD_MARK;
-    }
-    0
-}
-
-// The number `refused` for a count over `most`, else 0.
-fn check_count(count: usize, most: usize, refused: u8) -> u8
-    ensures { λ r. ⌜ CountNumber count most refused r ⌝ }
-{
-    if most < count {
-        return refused;
-    }
-    0
+    otherwise
 }
 
 // Of two numbers the first that is a refusal, 0 if neither is.
@@ -179,20 +149,28 @@ fn first_refusal(first: u8, second: u8) -> u8
 // The number of the first check on entry that is not passed, 0 if all are, for a call that takes at most `limit` marks. `own` is what
 // the checks that the call makes right after 6 have given; a call that makes none hands over 0. The values of a strip that no call takes
 // are not looked at.
-pub fn check_marks(places: &[i16], lengths: &[u8], weights: &[u16], own: u8, limit: usize) -> u8
+fn check_marks(places: &[i16], lengths: &[u8], weights: &[u16], own: u8, limit: usize) -> u8
     ensures { λ r. ⌜ NumberOnEntry own limit (strip (now (places .entry)) (now (lengths .entry)) (now (weights .entry))) r ⌝ }
 {
-    let lists = first_refusal(check_lists(places, lengths, weights), own);
-    let refused = first_refusal(lists, check_count(places.len(), MOST_MARKS, TOO_MANY_MARKS));
+    let lists = check(same_lengths(places, lengths, weights), LISTS_UNEQUAL);
+    let with_own = first_refusal(lists, own);
+    let refused = first_refusal(with_own, check(places.len() <= MOST_MARKS, TOO_MANY_MARKS));
     if refused != 0 {
         return refused;
     }
-    let values = check_values(places, lengths, weights);
-    first_refusal(values, check_count(places.len(), limit, TOO_MANY_MARKS))
+    let values = check(good_marks(places, lengths, weights), BAD_MARK);
+    first_refusal(values, check(places.len() <= limit, TOO_MANY_MARKS))
 }
 
-// The same at a gap, with the checks on lent memory behind them: 9 where the shortest answer list, of `shortest` elements, is shorter than
-// the count of marks, then 10 where the work area, of `lent` elements, is shorter than `named`.
+// The checks on entry of the writer, which has none of its own.
+pub fn check_strip(places: &[i16], lengths: &[u8], weights: &[u16]) -> u8
+    ensures { λ r. ⌜ r ≡ numberOf (entry mostMarks (strip (now (places .entry)) (now (lengths .entry)) (now (weights .entry)))) ⌝ }
+{
+    check_marks(places, lengths, weights, 0, MOST_MARKS)
+}
+
+// Those of a pass, whose own is that of the gap, and behind them the checks on lent memory: 9 where the shortest answer list, of
+// `shortest` elements, is shorter than the count of marks, then 10 where the work area, of `lent` elements, is shorter than `named`.
 pub fn check_pass(
     places: &[i16],
     lengths: &[u8],
@@ -207,7 +185,8 @@ pub fn check_pass(
         (strip (now (places .entry)) (now (lengths .entry)) (now (weights .entry)))
         gap shortest named lent) ⌝ }
 {
-    let entry = check_marks(places, lengths, weights, check_gap(gap), limit);
-    let answers = first_refusal(entry, check_count(places.len(), shortest, LIST_TOO_SHORT));
-    first_refusal(answers, check_count(named, lent, WORK_TOO_SHORT))
+    let own = check(gap <= MOST_GAP, GAP_TOO_WIDE);
+    let entry = check_marks(places, lengths, weights, own, limit);
+    let answers = first_refusal(entry, check(places.len() <= shortest, LIST_TOO_SHORT));
+    first_refusal(answers, check(named <= lent, WORK_TOO_SHORT))
 }

@@ -23,8 +23,7 @@ use crate::format::HEADER_LENGTH;
 use crate::format::WORD_WIDTH;
 use geometry::dot::ZERO_DOT;
 use geometry::dot::dot_of;
-use geometry::entry::check_marks;
-use geometry::limits::MOST_MARKS;
+use geometry::entry::check_strip;
 use geometry::refusal::LIST_TOO_SHORT;
 
 // The three values of a record. The first mark has no step, which is written as the absent value is.
@@ -176,7 +175,7 @@ pub fn write(places: &[i16], lengths: &[u8], weights: &[u16], job: &mut [u8]) ->
         (strip (now (places .entry)) (now (lengths .entry)) (now (weights .entry))) (now (job .entry))
         (now (job .exit)) r ⌝ }
 {
-    let number = check_marks(places, lengths, weights, 0, MOST_MARKS);
+    let number = check_strip(places, lengths, weights);
     if number != 0 {
         return Written { number, length: 0 };
     }

@@ -2,19 +2,20 @@
 -- are.
 use Prim.Native.Nat.{ℕ}
 use mathlib.Core.Path.{_≡_}
+use mathlib.Core.Bool.{Bool}
 use mathlib.Core.List.{List, [], _∷_, _++_}
 use Rattle.geometry.specs.Strip.{Strip}
-use Rattle.geometry.specs.Refusal.{Refusal, refusalNumber, Check, atMost, numberOf, firstFailure}
+use Rattle.geometry.specs.Refusal.{Refusal, refusalNumber, Check, numberOf, firstFailure}
 use Rattle.geometry.specs.Entry.{entryChecks}
 
 -- the number of such a list
 abbrev pub numberOfChecks : List Check → ℕ
 numberOfChecks checks = numberOf (firstFailure checks)
 
--- the number of the check that a count is at most so many, from the two and the number of its refusal
-abbrev pub CountNumber : ℕ → ℕ → ℕ → ℕ → Type 0
-CountNumber count most refused number =
-    (n m : ℕ) (r : Refusal) → (count ≡ n) × (most ≡ m) × (refused ≡ refusalNumber r) → number ≡ numberOfChecks (atMost n m r ∷ [])
+-- the number of one check, from its test and the number of its refusal
+abbrev pub CheckNumber : Bool → ℕ → ℕ → Type 0
+CheckNumber passes otherwise number =
+    (t : Bool) (r : Refusal) → passes ≡ t → otherwise ≡ refusalNumber r → number ≡ numberOfChecks (record { passes = t; otherwise = r } ∷ [])
 
 -- the number of two lists of checks one after the other, from the number of each
 abbrev pub FirstNumber : ℕ → ℕ → ℕ → Type 0

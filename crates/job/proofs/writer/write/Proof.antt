@@ -1,13 +1,11 @@
 -- `job::writer::write` meets its contract: each return stands at the first check that is not passed, and the bytes are put last.
 use mathlib.Core.Path.{_≡_, refl, sym, _∙_, ap}
-use mathlib.Core.List.{[]}
 use Prim.Native.Nat.{_+_}
 use native.Mathlib.Omega.{arith}
 use lib.ListN.{length}
 use lib.Seq.{length-sets}
 use Rattle.geometry.specs.Strip.{Strip, strip, mostMarks}
 use Rattle.geometry.specs.Entry.{entry}
-use Rattle.geometry.specs.Refusal.{numberOf, firstFailure}
 use Rattle.geometry.proofs.Verdicts.{zero-accepted}
 use Rattle.geometry.proofs.Accepted.{entry-accepted}
 use Rattle.job.specs.Format.{headerLength}
@@ -22,20 +20,15 @@ use Rattle.job.proofs.writer.write.Tie as tie
 abbrev entered : tie.After-slice-known → tie.Start
 entered c = c .before .before .before
 
-abbrev start : tie.After-check-marks → tie.Start
+abbrev start : tie.After-check-strip → tie.Start
 start c = entered (c .before)
 
 abbrev marks : tie.Start → Strip
 marks s = strip (s .args .places .now) (s .args .lengths .now) (s .args .weights .now)
 
--- the number that the checks on entry give; the writer makes none of its own among them
-on-entry : (c : tie.After-check-marks) → c .check-marks .result ≡ numberOf (entry mostMarks (marks (start c)))
-unfolding entry firstFailure
-on-entry c = c .check-marks .ensures [] refl
-
 -- the strip passes the checks on entry
 good : (c : tie.Else1) → Writable (marks (start (c .before)))
-good c = zero-accepted (entry mostMarks (marks (start (c .before)))) (sym (on-entry (c .before)) ∙ omega arith)
+good c = zero-accepted (entry mostMarks (marks (start (c .before)))) (sym (c .before .check-strip .ensures) ∙ omega arith)
 
 -- the job has room for the whole
 abbrev passed : tie.Else2 → tie.Else1
@@ -56,14 +49,14 @@ as-long c =
 abbrev headed : tie.After-put-records-arg → tie.After-put-header
 headed c = c .before .before .before
 
-check-marks-requires : tie.Need-check-marks-requires
-check-marks-requires c κs = search needs
+check-strip-requires : tie.Need-check-strip-requires
+check-strip-requires c κs = search needs
 
 returns : tie.Need-returns
 returns c =
     let s = start (c .before) in
-    refused-write (marks s) (s .args .job .now) (c .before .check-marks .result)
-    (entry-refused (length (s .args .job .now)) (marks s) (c .before .check-marks .result) (on-entry (c .before)) (λ zero. omega arith))
+    refused-write (marks s) (s .args .job .now) (c .before .check-strip .result)
+    (entry-refused (length (s .args .job .now)) (marks s) (c .before .check-strip .result) (c .before .check-strip .ensures) (λ zero. omega arith))
 
 job-length-requires : tie.Need-job-length-requires
 job-length-requires c κs = good c
@@ -100,7 +93,7 @@ pub write-spec : {M : Type 1} → statement M
 write-spec =
     tie.close
     (tie.spec
-    check-marks-requires
+    check-strip-requires
     returns
     job-length-requires
     returns-2
