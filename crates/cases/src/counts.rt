@@ -18,7 +18,10 @@ fn set_places(places: &mut [i16])
     }
 }
 
-// So many marks, but another one in place of the last.
+// A mark's place, length and weight.
+struct Mark(i16, u8, u16);
+
+// What the calls must give for so many marks with another one in place of the last.
 fn last_gives(
     agreed: u32,
     case: u32,
@@ -26,31 +29,21 @@ fn last_gives(
     places: &mut [i16],
     lengths: &mut [u8],
     weights: &mut [u16],
-    place: i16,
-    dots: u8,
-    weight: u16,
+    last: Mark,
     small: u8,
     large: u8,
 ) -> u32
     requires { ⌜ (1 ≤ marks) × (marks ≡ length (now places)) × (marks ≡ length (now lengths)) × (marks ≡ length (now weights)) ⌝ }
 {
+    let place = last.0;
     places[marks - 1] = place;
-    lengths[marks - 1] = dots;
-    weights[marks - 1] = weight;
+    lengths[marks - 1] = last.1;
+    weights[marks - 1] = last.2;
     passes::calls_give(agreed, case, places, lengths, weights, small, large)
 }
 
 // The first so many of the 4,001 marks, with labels of 10 dots and weight 1, but for the last one.
-fn first_give(
-    agreed: u32,
-    case: u32,
-    marks: usize,
-    place: i16,
-    dots: u8,
-    weight: u16,
-    small: u8,
-    large: u8,
-) -> u32
+fn first_give(agreed: u32, case: u32, marks: usize, last: Mark, small: u8, large: u8) -> u32
     requires { ⌜ (1 ≤ marks) × (marks ≤ mostMarks + 1) ⌝ }
 {
     let mut places = [0i16; TOO_MANY];
@@ -62,9 +55,7 @@ fn first_give(
         &mut places[..marks],
         &mut [10u8; TOO_MANY][..marks],
         &mut [1u16; TOO_MANY][..marks],
-        place,
-        dots,
-        weight,
+        last,
         small,
         large,
     )
@@ -74,11 +65,11 @@ fn first_give(
 fn five_give(agreed: u32, case: u32, marks: usize, small: u8, large: u8, bad: u8) -> u32
     requires { ⌜ (2 ≤ marks) × (marks ≤ mostMarks + 1) × (case ≤ 1000) ⌝ }
 {
-    let a = first_give(agreed, case, marks, 30000, 10, 1, small, large);
-    let b = first_give(a, case + 1, marks, 30001, 10, 1, bad, bad);
-    let c = first_give(b, case + 2, marks, 30000, 241, 1, bad, bad);
-    let d = first_give(c, case + 3, marks, 30000, 10, 1001, bad, bad);
-    first_give(d, case + 4, marks, -30000, 10, 1, bad, bad)
+    let a = first_give(agreed, case, marks, Mark(30000, 10, 1), small, large);
+    let b = first_give(a, case + 1, marks, Mark(30001, 10, 1), bad, bad);
+    let c = first_give(b, case + 2, marks, Mark(30000, 241, 1), bad, bad);
+    let d = first_give(c, case + 3, marks, Mark(30000, 10, 1001), bad, bad);
+    first_give(d, case + 4, marks, Mark(-30000, 10, 1), bad, bad)
 }
 
 // One length too few for 4,001 places: 6 comes before 7.

@@ -3,13 +3,16 @@
 -- sentence, for the checks of each call beside the same checks in the order before (geometry's OrderBefore). Everything that a call's
 -- contract says follows from the verdict of its checks: where that is as before, so is the answer; and where it is another refusal, the
 -- number is all that changes, since every refusal by these checks leaves lent memory as it was, with sum and count 0.
-use mathlib.Core.Path.{_≡_}
+use mathlib.Core.Path.{_≡_, refl}
 use mathlib.Core.Bool.{true, false}
 use Prim.Native.Nat.{ℕ, min, _≤_}
 use native.Mathlib.Omega.{arith}
-use lib.ListN.{length}
+use lib.IntN.{pos}
+use lib.ListN.{length, replicate}
 use borrow.Author.Tests.{leb-true, le-leb}
-use Rattle.geometry.specs.Strip.{Strip, mostMarks, mostShort}
+use Rattle.geometry.specs.Lists.{every}
+use Rattle.geometry.specs.Mark.{rising}
+use Rattle.geometry.specs.Strip.{Strip, strip, mostMarks, mostShort}
 use Rattle.geometry.specs.Refusal.{Verdict, refused, tooManyMarks, badMark}
 use Rattle.geometry.specs.Entry.{sameLengths, goodMarks, entry}
 use Rattle.geometry.specs.Pass.{gapChecks, passVerdict}
@@ -100,3 +103,8 @@ order-changed =
       slide-answers = λ s g lent left number call h. slide-refused s g badMark lent left number call (changes s g _ _ _ .these h .1);
       best-answers = λ s g lent left answer call h. best-refused s g badMark lent left answer call (changes s g _ _ _ .these h .1);
     }
+
+-- There are such strips: 61 marks with labels of no length.
+there-are-such : LongAndBad (strip (replicate 61 (pos 0)) (replicate 61 0) (replicate 61 1)) 0
+unfolding every rising
+there-are-such = record { past-6 = refl; past-12 = omega arith; from-61 = omega arith; to-4000 = omega arith; one-bad = refl }

@@ -3,7 +3,7 @@
 -- has its own number, and 11 is none of them.
 use mathlib.Core.Path.{_≡_, refl, sym, _∙_, ap}
 use mathlib.Core.Bool.{Bool, true, false, not}
-use mathlib.Core.List.{List, [], _∷_, _++_}
+use mathlib.Core.List.{List, [], _∷_, _++_, append-assoc}
 use Prim.Native.Nat.{ℕ, _≤_}
 use native.Mathlib.Omega.{arith}
 use lib.Dec.{leb, eqb}
@@ -85,6 +85,18 @@ module _ (cs ds : List Check) where
 
   pub all-passed : firstFailure cs ≡ accepted → firstFailure ds ≡ accepted → firstFailure (cs ++ ds) ≡ accepted
   all-passed first second = verdict-passes first ∙ second
+
+-- the number of a list and two more: its own if that is a refusal, else that of the two
+module _ (cs ds es : List Check) where
+  in-turn : numberOfChecks (cs ++ (ds ++ es)) ≡ numberOfChecks (cs ++ ds ++ es)
+  in-turn = sym (ap numberOfChecks (append-assoc cs ds es))
+
+  pub early-stands : {number : ℕ} → number ≡ numberOfChecks cs → (number ≡ 0 → ⊥) → number ≡ numberOfChecks (cs ++ ds ++ es)
+  early-stands is some = number-stands cs (ds ++ es) is some ∙ in-turn
+
+  pub early-passes : {first number : ℕ} → first ≡ numberOfChecks cs → first ≡ 0 → number ≡ numberOfChecks (ds ++ es)
+      → number ≡ numberOfChecks (cs ++ ds ++ es)
+  early-passes is none second = number-passes cs (ds ++ es) is none second ∙ in-turn
 
 -- so lists of checks with equal verdicts are followed by equal ones, and a refusal by none
 pub same-then : (cs ds es : List Check) → firstFailure cs ≡ firstFailure ds → firstFailure (cs ++ es) ≡ firstFailure (ds ++ es)

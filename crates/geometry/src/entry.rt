@@ -187,6 +187,9 @@ pub fn check_pass(
 {
     let own = check(gap <= MOST_GAP, GAP_TOO_WIDE);
     let entry = check_marks(places, lengths, weights, own, limit);
-    let answers = first_refusal(entry, check(places.len() <= shortest, LIST_TOO_SHORT));
+    if entry != 0 {
+        return entry;
+    }
+    let answers = check(places.len() <= shortest, LIST_TOO_SHORT);
     first_refusal(answers, check(named <= lent, WORK_TOO_SHORT))
 }

@@ -1,37 +1,18 @@
 -- `geometry::entry::check_marks` meets its contract: the checks that look at no value come first, and where they are passed the others
 -- decide.
-use mathlib.Core.Path.{_≡_, refl, sym, _∙_, ap}
-use mathlib.Core.List.{List, _++_, append-assoc}
-use Prim.Native.Nat.{ℕ}
+use mathlib.Core.Path.{_≡_, refl}
+use mathlib.Core.List.{List, _++_}
 use native.Mathlib.Omega.{arith}
 use lib.ListN.{length}
 use borrow.Author.Needs.{needs}
 use borrow.Author.Tests.{le-leb, leb-true}
 use Rattle.geometry.specs.Strip.{Strip, strip, mostMarks}
 use Rattle.geometry.specs.Refusal.{Check, listsUnequal, tooManyMarks, badMark}
-use Rattle.geometry.specs.Entry.{sameLengths, goodMarks, listsChecks, countChecks, valueChecks, entryChecks}
+use Rattle.geometry.specs.Entry.{sameLengths, goodMarks, listsChecks, countChecks, valueChecks}
 use Rattle.geometry.specs.inner.OnEntry.{numberOfChecks}
-use Rattle.geometry.proofs.Verdicts.{number-stands, number-passes, count-number}
+use Rattle.geometry.proofs.Verdicts.{early-stands, early-passes, count-number}
 use Rattle.geometry.proofs.entry.check_marks.Statement.{statement}
 use Rattle.geometry.proofs.entry.check_marks.Tie as tie
-
-module _ (own : List Check) (limit : ℕ) (s : Strip) where
-  -- 6, the call's own checks and 7 over 4,000; then 8 and 7 over the call's limit
-  abbrev early : List Check
-  early = listsChecks s ++ own ++ countChecks mostMarks s
-
-  abbrev late : List Check
-  late = valueChecks s ++ countChecks limit s
-
-  in-turn : numberOfChecks (early ++ late) ≡ numberOfChecks (entryChecks own limit s)
-  in-turn = sym (ap numberOfChecks (append-assoc early (valueChecks s) (countChecks limit s)))
-
-  by-early : {number : ℕ} → number ≡ numberOfChecks early → (number ≡ 0 → ⊥) → number ≡ numberOfChecks (entryChecks own limit s)
-  by-early is some = number-stands early late is some ∙ in-turn
-
-  by-late : {first number : ℕ} → first ≡ numberOfChecks early → first ≡ 0 → number ≡ numberOfChecks late
-      → number ≡ numberOfChecks (entryChecks own limit s)
-  by-late is none second = number-passes early late is none second ∙ in-turn
 
 -- the point where the lists have been compared, and what was passed
 abbrev compared : tie.After-first-refusal2 → tie.After-check
@@ -43,9 +24,9 @@ start c = let tested = compared c .before in tested .before .before .before
 abbrev marks : tie.After-first-refusal2 → Strip
 marks c = let a = start c .args in strip (a .places .now) (a .lengths .now) (a .weights .now)
 
--- the number of the early checks
+-- the number of the checks that come before the values are looked at
 early-is : (c : tie.After-first-refusal2) (own : List Check) → start c .args .own ≡ numberOfChecks own
-    → c .first-refusal2 .result ≡ numberOfChecks (early own (start c .args .limit) (marks c))
+    → c .first-refusal2 .result ≡ numberOfChecks (listsChecks (marks c) ++ own ++ countChecks mostMarks (marks c))
 early-is c own e =
     let s = marks c in
     let six = compared c .check .ensures (sameLengths s) listsUnequal (compared c .before .same-lengths .ensures) refl in
@@ -71,7 +52,7 @@ first-refusal-requires-2 c κs = search needs
 returns : tie.Need-returns
 returns c own e =
     let made = c .before in
-    by-early own (start made .args .limit) (marks made) (early-is made own e) (c .if1 .taken)
+    early-stands _ (valueChecks (marks made)) (countChecks (start made .args .limit) (marks made)) (early-is made own e) (c .if1 .taken)
 
 good-marks-requires : tie.Need-good-marks-requires
 good-marks-requires c κs = search needs
@@ -94,7 +75,7 @@ returns-2 c own e =
     let limit = start made .args .limit in
     let eight = looked .check3 .ensures (goodMarks s) badMark (looked .before .good-marks .ensures) refl in
     let seven = count-number (length (s .places)) limit tooManyMarks (c .before .check4 .ensures) (omega (arith, leb-true, le-leb, start made .fits)) in
-    by-late own limit s (early-is made own e) (passed .if1 .left)
+    early-passes _ (valueChecks s) (countChecks limit s) (early-is made own e) (passed .if1 .left)
     (c .first-refusal3 .ensures (valueChecks s) (countChecks limit s) (omega (arith, eight)) (omega (arith, seven)))
 
 pub check-marks-spec : {M : Type 1} → statement M
