@@ -105,6 +105,6 @@ order-changed =
     }
 
 -- There are such strips: 61 marks with labels of no length.
-there-are-such : LongAndBad (strip (replicate 61 (pos 0)) (replicate 61 0) (replicate 61 1)) 0
+pub there-are-such : LongAndBad (strip (replicate 61 (pos 0)) (replicate 61 0) (replicate 61 1)) 0
 unfolding every rising
 there-are-such = record { past-6 = refl; past-12 = omega arith; from-61 = omega arith; to-4000 = omega arith; one-bad = refl }

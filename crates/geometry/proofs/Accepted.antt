@@ -49,27 +49,27 @@ record Passed (own : List Check) (limit : ℕ) (s : Strip) : Type 0 where
   values : firstFailure (valueChecks s) ≡ accepted
   few : firstFailure (countChecks limit s) ≡ accepted
 
-module _ (own : List Check) (limit : ℕ) (s : Strip) where
+module _ (own : List Check) (s : Strip) where
   -- those up to each of them
-  abbrev to-own : List Check
+  abbrev pub to-own : List Check
   to-own = listsChecks s ++ own
 
-  abbrev to-count : List Check
+  abbrev pub to-count : List Check
   to-count = to-own ++ countChecks mostMarks s
 
-  abbrev to-values : List Check
+  abbrev pub to-values : List Check
   to-values = to-count ++ valueChecks s
 
-  each-passed : firstFailure (entryChecks own limit s) ≡ accepted → Passed own limit s
-  each-passed e =
+  each-passed : (limit : ℕ) → firstFailure (entryChecks own limit s) ≡ accepted → Passed own limit s
+  each-passed limit e =
       let last = both-passed to-values (countChecks limit s) e in
       let value = both-passed to-count (valueChecks s) (last .0) in
       let count = both-passed to-own (countChecks mostMarks s) (value .0) in
       let first = both-passed (listsChecks s) own (count .0) in
       record { lists = first .0; after-lists = first .1; taken = count .1; values = value .1; few = last .1 }
 
-  pass-each : Passed own limit s → firstFailure (entryChecks own limit s) ≡ accepted
-  pass-each p =
+  pass-each : (limit : ℕ) → Passed own limit s → firstFailure (entryChecks own limit s) ≡ accepted
+  pass-each limit p =
       let first = all-passed (listsChecks s) own (p .lists) (p .after-lists) in
       let count = all-passed to-own (countChecks mostMarks s) first (p .taken) in
       let value = all-passed to-count (valueChecks s) count (p .values) in
@@ -97,7 +97,7 @@ from-checks own limit s p =
 -- from the verdict on entry
 on-entry : (limit : ℕ) (s : Strip) → entry limit s ≡ accepted → Passed [] limit s
 unfolding entry
-on-entry limit s e = each-passed [] limit s e
+on-entry limit s e = each-passed [] s limit e
 
 pub entry-accepted : (limit : ℕ) (s : Strip) → entry limit s ≡ accepted → Accepted limit s
 entry-accepted limit s e = from-checks [] limit s (on-entry limit s e)
@@ -110,7 +110,7 @@ pass-accepted limit s g shortest named lent e =
     let answers = answerChecks (length (s .places)) shortest in
     let last = both-passed (entryChecks (gapChecks g) limit s ++ answers) (workChecks named lent) e in
     let lists = both-passed (entryChecks (gapChecks g) limit s) answers (last .0) in
-    let p = each-passed (gapChecks g) limit s (lists .0) in
+    let p = each-passed (gapChecks g) s limit (lists .0) in
     record {
       entered = from-checks (gapChecks g) limit s p;
       gap-narrow = leb-true _ _ (one-passed _ (p .after-lists));
@@ -124,7 +124,7 @@ unfolding entry
 accepted-entry limit s most a =
     let places = both (every placeInRange (s .places)) (rising (s .places)) (a .places-good) (a .places-rise) in
     let labels = both (every lengthInRange (s .lengths)) (every weightInRange (s .weights)) (a .lengths-good) (a .weights-good) in
-    pass-each [] limit s
+    pass-each [] s limit
     (record {
       lists = pass-one _ (both _ _ (eq-eqb _ _ (a .same-lengths)) (eq-eqb _ _ (a .same-weights)));
       after-lists = pass-none;
@@ -143,14 +143,14 @@ accept-pass limit s g shortest named lent e narrow h k =
     record { lists = p .lists; after-lists = pass-one _ (le-leb _ _ narrow); taken = p .taken; values = p .values; few = p .few } in
     let checks = entryChecks (gapChecks g) limit s in
     let answers = answerChecks (length (s .places)) shortest in
-    let listed = all-passed checks answers (pass-each (gapChecks g) limit s passed) (pass-one _ (le-leb _ _ h)) in
+    let listed = all-passed checks answers (pass-each (gapChecks g) s limit passed) (pass-one _ (le-leb _ _ h)) in
     all-passed (checks ++ answers) (workChecks named lent) listed (pass-one _ (le-leb _ _ k))
 
 -- and a call that takes fewer marks, but not fewer than it has, accepts it too
 pub accept-shorter : (limit fewer : ℕ) (s : Strip) → entry limit s ≡ accepted → length (s .places) ≤ fewer → entry fewer s ≡ accepted
 unfolding entry
 accept-shorter limit fewer s e h =
-    all-passed (to-values [] limit s) (countChecks fewer s) (both-passed (to-values [] limit s) (countChecks limit s) e .0) (pass-one _ (le-leb _ _ h))
+    all-passed (to-values [] s) (countChecks fewer s) (both-passed (to-values [] s) (countChecks limit s) e .0) (pass-one _ (le-leb _ _ h))
 
 -- every element of a good list is good
 pub every-at : {A : Type 0} (p : A → Bool) (xs : List A) (d : A) (i : ℕ) → every p xs ≡ true → i < length xs → p (getD xs i d) ≡ true

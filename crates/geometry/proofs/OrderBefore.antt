@@ -14,6 +14,7 @@ use Rattle.geometry.specs.Refusal.{Refusal, Check, Verdict, accepted, re
 use Rattle.geometry.specs.Entry.{sameLengths, goodMarks, listsChecks, countChecks, valueChecks, entryChecks, entry}
 use Rattle.geometry.specs.Pass.{gapChecks, answerChecks, workChecks, passVerdict}
 use Rattle.geometry.proofs.Verdicts.{then, failure-append, same-then, refusal-stands, both-passed, all-passed, one-passed, pass-one}
+use Rattle.geometry.proofs.Accepted.{to-own, to-count, to-values}
 
 -- the checks on entry in the order before
 abbrev pub entryChecksBefore : List Check → ℕ → Strip → List Check
@@ -61,28 +62,24 @@ all-cases accepted false good true fewer other = absurd (mathlib.Core.Bool.false
 all-cases accepted false good false fewer other = refl
 
 module _ (own : List Check) (limit : ℕ) (s : Strip) where
-  -- 6 and the call's own checks; the count of marks
-  abbrev toOwn : List Check
-  toOwn = listsChecks s ++ own
-
   abbrev count : ℕ
   count = length (s .places)
 
   -- both orders in these terms
   now-judged : firstFailure (entryChecks own limit s)
-      ≡ judged (firstFailure toOwn) (leb count mostMarks) (goodMarks s) (leb count limit)
+      ≡ judged (firstFailure (to-own own s)) (leb count mostMarks) (goodMarks s) (leb count limit)
   unfolding firstFailure
   now-judged =
       rw (
-        failure-append (toOwn ++ countChecks mostMarks s ++ valueChecks s) (countChecks limit s),
-        failure-append (toOwn ++ countChecks mostMarks s) (valueChecks s),
-        failure-append toOwn (countChecks mostMarks s),
+        failure-append (to-values own s) (countChecks limit s),
+        failure-append (to-count own s) (valueChecks s),
+        failure-append (to-own own s) (countChecks mostMarks s),
       )
       refl
 
-  before-judged : firstFailure (entryChecksBefore own limit s) ≡ judgedBefore (firstFailure toOwn) (goodMarks s) (leb count limit)
+  before-judged : firstFailure (entryChecksBefore own limit s) ≡ judgedBefore (firstFailure (to-own own s)) (goodMarks s) (leb count limit)
   unfolding firstFailure
-  before-judged = rw (failure-append (toOwn ++ countChecks limit s) (valueChecks s), failure-append toOwn (countChecks limit s)) refl
+  before-judged = rw (failure-append (to-own own s ++ countChecks limit s) (valueChecks s), failure-append (to-own own s) (countChecks limit s)) refl
 
   -- where the order decides: 7 before, 8 now
   pub decided : Decides own limit s
@@ -98,7 +95,7 @@ module _ (own : List Check) (limit : ℕ) (s : Strip) where
       → firstFailure (entryChecks own limit s) ≡ firstFailure (entryChecksBefore own limit s)
   undecided most other =
       now-judged
-      ∙ all-cases (firstFailure toOwn) (leb count mostMarks) (goodMarks s) (leb count limit)
+      ∙ all-cases (firstFailure (to-own own s)) (leb count mostMarks) (goodMarks s) (leb count limit)
       (λ long. let over = leb-false count mostMarks long in lt-leb count limit (omega arith))
       (λ passed taken bad many.
       other

@@ -72,7 +72,7 @@ module _ (cs ds : List Check) where
   number-stands is some = rw (failure-append cs ds, then-stands _ (firstFailure ds) (λ none. some (is ∙ none))) is
 
   -- and else the number is that of the second
-  pub verdict-passes : firstFailure cs ≡ accepted → firstFailure (cs ++ ds) ≡ firstFailure ds
+  verdict-passes : firstFailure cs ≡ accepted → firstFailure (cs ++ ds) ≡ firstFailure ds
   verdict-passes passed = rw (failure-append cs ds, passed) refl
 
   pub number-passes : {first number : ℕ} → first ≡ numberOfChecks cs → first ≡ 0 → number ≡ numberOfChecks ds
