@@ -1,6 +1,6 @@
 /*
- * The stack that each call of strip.h takes: the most of many calls, on strips and jobs of all sizes, accepted and refused, from
- * a fixed generator. Exit status 1 if it is more than strip.h names.
+ * The stack that each call of strip.h takes: the most of many calls, on strips, jobs and texts of all sizes, accepted and refused,
+ * from a fixed generator. Exit status 1 if it is more than strip.h names.
  *
  * A call runs on a stack of its own that was painted before. Counted are the bytes below the call's return address down to the
  * lowest one that lost its paint: the frame of the call and of all that it calls, memset included. The return address and the
@@ -17,6 +17,8 @@
 #define CALLS 2000
 /* One mark more than a call takes, and one more in a list of unequal length. */
 #define MARKS_MOST 4002
+/* As many bytes as a text of 240 dots can have, and one more. */
+#define TEXT_MOST (STRIP_LENGTH_MOST / STRIP_LETTER_LEAST + 1)
 
 /* ---- a painted stack */
 
@@ -69,6 +71,10 @@ static uint8_t gap;
 static uint8_t job[STRIP_JOB_MOST];
 static size_t job_len;
 
+static uint8_t texts[MARKS_MOST * TEXT_MOST];
+static uint16_t counts[MARKS_MOST];
+static size_t texts_len;
+
 static uint8_t bytes[STRIP_JOB_MOST];
 static int16_t edges[MARKS_MOST];
 static uint16_t words[MARKS_MOST];
@@ -79,7 +85,7 @@ static uint16_t work_slide[STRIP_WORK_SLIDE];
 static uint32_t work_best[STRIP_WORK_BEST];
 static size_t missing;
 
-static uint8_t number;
+static uint8_t number, length;
 static uint32_t sum;
 static size_t count;
 
@@ -95,6 +101,9 @@ static __typeof__(strip_slide) *volatile slide;
 static __typeof__(strip_best) *volatile best;
 static __typeof__(strip_read) *volatile read_job;
 static __typeof__(strip_write) *volatile write_job;
+static __typeof__(strip_measure) *volatile measure_text;
+static __typeof__(strip_beginning) *volatile begin_text;
+static __typeof__(strip_lengths) *volatile measure_texts;
 
 /* The empty function looks at no argument, so it may stand for every call. */
 #define EMPTY_FOR(call) ((__typeof__(call) *)empty)
@@ -106,6 +115,9 @@ static void call_the_calls(int calls)
     best = calls ? strip_best : EMPTY_FOR(strip_best);
     read_job = calls ? strip_read : EMPTY_FOR(strip_read);
     write_job = calls ? strip_write : EMPTY_FOR(strip_write);
+    measure_text = calls ? strip_measure : EMPTY_FOR(strip_measure);
+    begin_text = calls ? strip_beginning : EMPTY_FOR(strip_beginning);
+    measure_texts = calls ? strip_lengths : EMPTY_FOR(strip_lengths);
 }
 
 static void at_full(void)
@@ -136,7 +148,23 @@ static void at_write(void)
     number = write_job(places, marks, lengths, lengths_len, weights, marks, bytes, sizeof bytes - missing, &count);
 }
 
-/* ---- strips and jobs */
+/* A text has a byte for each mark. */
+static void at_measure(void)
+{
+    number = measure_text(texts, marks, &length);
+}
+
+static void at_beginning(void)
+{
+    number = begin_text(texts, marks, &count);
+}
+
+static void at_lengths(void)
+{
+    number = measure_texts(texts, texts_len, counts, marks, bytes, answer_len);
+}
+
+/* ---- strips, jobs and texts */
 
 static uint64_t state;
 
@@ -213,6 +241,26 @@ static void draw_job(void)
         job[below(job_len)] = (uint8_t)below(256);
 }
 
+/* A text for each mark, sometimes with one that is empty or too wide, a byte that is not in the font, or a byte too many. */
+static void draw_texts(void)
+{
+    uint32_t longest = 1 + below(STRIP_LENGTH_MOST / STRIP_LETTER_MOST);
+    size_t at = below(marks), i, k;
+
+    texts_len = 0;
+    for (i = 0; i < marks; i++) {
+        counts[i] = (uint16_t)(1 + below(longest));
+        if (i == at && below(8) == 0)
+            counts[i] = (uint16_t)(below(2) * TEXT_MOST);
+        for (k = 0; k < counts[i]; k++)
+            texts[texts_len++] = (uint8_t)(STRIP_FONT_FIRST + below(STRIP_FONT_LAST - STRIP_FONT_FIRST + 1));
+    }
+    if (texts_len != 0 && below(8) == 0)
+        texts[below(texts_len)] = STRIP_FONT_LAST + 1;
+    if (below(16) == 0)
+        texts_len++;
+}
+
 /* ---- the table */
 
 static int measure(const char *name, void (*at)(void), size_t most, size_t named)
@@ -230,6 +278,7 @@ static int measure(const char *name, void (*at)(void), size_t most, size_t named
         draw_marks(most);
         draw_fault();
         draw_job();
+        draw_texts();
         taken = touched() - caller;
         worst = worst < taken ? taken : worst;
         accepted += number == STRIP_ACCEPTED;
@@ -249,6 +298,9 @@ int main(void)
     more |= measure("best", at_best, STRIP_MARKS_BEST, STRIP_STACK_BEST);
     more |= measure("read", at_read, STRIP_MARKS_JOB, STRIP_STACK_READ);
     more |= measure("write", at_write, STRIP_MARKS_JOB, STRIP_STACK_WRITE);
+    more |= measure("measure", at_measure, TEXT_MOST, STRIP_STACK_MEASURE);
+    more |= measure("beginning", at_beginning, TEXT_MOST, STRIP_STACK_BEGINNING);
+    more |= measure("lengths", at_lengths, STRIP_TEXTS_MOST, STRIP_STACK_LENGTHS);
     if (more)
         printf("a call takes more stack than strip.h names\n");
     return more;

@@ -5,6 +5,9 @@
  * places strictly rising. Marks are numbered from 1. The passes take a gap, 0 to 8 dots: labels of one side overlap if they share more
  * than an end point, or if fewer than that many dots lie between their nearer ends. At gap 0 they may touch.
  *
+ * Labels may come as text, in bytes from 32 to 126. Their widths in the strip font are: space 4 dots; the letters i, l and the signs
+ * ! ' , . : ; and | 3; m, w, M, W 9; all others 6. A label's length is the sum over its bytes.
+ *
  * Every list is a pointer and then its count of elements. What the caller owes, and no call can test:
  *   - no pointer is NULL, also where the count is 0, and each is aligned for its element type;
  *   - each pointer has at least its count of elements behind it, all of them initialised;
@@ -18,7 +21,9 @@
  * The order of the checks:
  *   - passes: 6, 12, 7 over 4,000 marks, 8, 7 over the marks that the pass takes, 9, 10, and at the end 11;
  *   - writer: 6, 7 over 4,000 marks, 8, 9;
- *   - reader: 1 and 4 for the header, 9, then 1 to 4 record by record, and at the end 5.
+ *   - reader: 1 and 4 for the header, 9, then 1 to 4 record by record, and at the end 5;
+ *   - measure: 13 over the whole text, 8; beginning: 13 over the whole text;
+ *   - lengths: 6, 7, 13 over all texts, 8 over all texts, 9.
  * So past 6 and 12 slide and best refuse a strip of 61 to 4,000 marks by 8 if one of them is bad, and by 7 if all are good.
  *
  * The archive, target/staticlib/libexports.a, is an `ar` archive of one ELF object for x86-64 with the System V calling
@@ -32,7 +37,8 @@
  *   - slide: 482n to fill its table, n to walk, and 30,000 to clear the work area;
  *   - best: 2n(n + 1)(2n + 1)/3 cells with five offers each (295,240 cells at 60 marks), 2n(n + 1) offers that the cells of a row
  *     share, 2n + 2 to prepare, 8n to walk, n(n + 1)/2 to list the left-out marks, and 30,000 to clear the work area twice;
- *   - reader and writer: 2n records, since each is looked at twice.
+ *   - reader and writer: 2n records, since each is looked at twice;
+ *   - measure, beginning and lengths: 2, 2 and 3 looks at each byte, lengths also 4 at each count.
  */
 #ifndef STRIP_H
 #define STRIP_H
@@ -49,8 +55,9 @@ extern "C" {
  *   2: strip_best lists left-out marks by falling weight, equal weights by rising number; in version 1 their order was open.
  *   3: strip_full, strip_slide and strip_best take a gap behind the mark lists, and refuse 12; gap 0 gives the answers of version 2.
  *   4: strip_slide and strip_best refuse 8 where they refused 7: past 6 and 12, with 61 to 4,000 marks, at least one of them bad.
+ *   5: strip_measure, strip_beginning and strip_lengths are new, and refuse 13; the other calls answer as in version 4.
  */
-#define STRIP_VERSION 4
+#define STRIP_VERSION 5
 
 /* What a call returns. */
 #define STRIP_ACCEPTED 0
@@ -59,13 +66,14 @@ extern "C" {
 #define STRIP_ABSENT_VALUE 3    /* reader: a field holds the value it has if absent */
 #define STRIP_OUT_OF_RANGE 4    /* reader: a count, a place or a field is out of range */
 #define STRIP_BYTES_LEFT_OVER 5 /* reader: bytes follow the last record */
-#define STRIP_LISTS_UNEQUAL 6   /* passes, writer: mark lists of unequal length */
-#define STRIP_TOO_MANY_MARKS 7  /* passes, writer: over 4,000 marks, or good ones but more than the pass takes */
-#define STRIP_BAD_MARK 8        /* passes, writer: a value out of range, or places not rising */
-#define STRIP_LIST_TOO_SHORT 9  /* all: a list to be filled is shorter than the count of marks, or the output than the job */
+#define STRIP_LISTS_UNEQUAL 6   /* passes, writer: mark lists of unequal length; lengths: counts that do not add up to the bytes */
+#define STRIP_TOO_MANY_MARKS 7  /* passes, writer: over 4,000 marks, or good ones but more than the pass takes; lengths: over 4,000 texts */
+#define STRIP_BAD_MARK 8        /* passes, writer: a value out of range, or places not rising; measure, lengths: 0 or over 240 dots */
+#define STRIP_LIST_TOO_SHORT 9  /* all that fill a list: it is shorter than the count of marks or texts, or the output than the job */
 #define STRIP_WORK_TOO_SHORT 10 /* passes: the work area is shorter than named below */
 #define STRIP_NO_PLACING 11     /* full, slide: not every mark can have a label */
 #define STRIP_GAP_TOO_WIDE 12   /* passes: the gap is over 8; tested right after 6 */
+#define STRIP_STRAY_BYTE 13     /* measure, beginning, lengths: a byte outside 32 to 126 */
 
 /* The ranges of a mark. */
 #define STRIP_PLACE_LEAST (-30000)
@@ -86,6 +94,13 @@ extern "C" {
 #define STRIP_MARKS_JOB 4000
 #define STRIP_JOB_MOST 24002
 
+/* The bytes of the strip font, the widths of the narrowest and the widest letter, and the most texts that strip_lengths takes. */
+#define STRIP_FONT_FIRST 32
+#define STRIP_FONT_LAST 126
+#define STRIP_LETTER_LEAST 3
+#define STRIP_LETTER_MOST 9
+#define STRIP_TEXTS_MOST 4000
+
 /* The named part of each work area, in elements. The sizes do not depend on the strip. */
 #define STRIP_WORK_FULL 20000
 #define STRIP_WORK_SLIDE 30000
@@ -97,6 +112,9 @@ extern "C" {
 #define STRIP_STACK_BEST 512
 #define STRIP_STACK_READ 128
 #define STRIP_STACK_WRITE 128
+#define STRIP_STACK_MEASURE 128
+#define STRIP_STACK_BEGINNING 128
+#define STRIP_STACK_LENGTHS 256
 
 /* The positions of a label, and the sides of a sliding one. */
 #define STRIP_UNLABELLED 0
@@ -164,6 +182,34 @@ uint8_t strip_read(const uint8_t *job, size_t job_len, int16_t *places, size_t p
  */
 uint8_t strip_write(const int16_t *places, size_t places_len, const uint8_t *lengths, size_t lengths_len,
                     const uint16_t *weights, size_t weights_len, uint8_t *job, size_t job_len, size_t *length);
+
+/*
+ * The measure: the length of a text as a label. A text may have any count of bytes.
+ *
+ * 0: *length is the sum of the widths of its bytes, 1 to 240.
+ * 13: a byte of the text is outside 32 to 126. 8: there is none, and the sum is 0, as for no bytes, or over 240. At both *length is 0.
+ */
+uint8_t strip_measure(const uint8_t *text, size_t text_len, uint8_t *length);
+
+/*
+ * The longest beginning of a text that is at most 240 dots. A text may have any count of bytes.
+ *
+ * 0: *count is how many bytes it has: the first *count bytes are at most 240 dots, and they are all of the text or one byte more is
+ * over 240. It is 0 for no bytes.
+ * 13: a byte of the text, also behind the beginning, is outside 32 to 126; *count is 0.
+ */
+uint8_t strip_beginning(const uint8_t *text, size_t text_len, size_t *count);
+
+/*
+ * The length list of a strip, from texts that stand one after the other in texts; counts has the count of bytes of each.
+ *
+ * 0: the first counts_len elements of lengths are what strip_measure gives for each text, in their order. No texts and no bytes are
+ * accepted.
+ * 6: the counts do not add up to texts_len; any number of counts is tested. 7: over 4,000 texts. 13 and 8: as for strip_measure; 13 of
+ * any text comes before 8 of any. 9: lengths has fewer elements than counts. At all of them nothing is changed.
+ */
+uint8_t strip_lengths(const uint8_t *texts, size_t texts_len, const uint16_t *counts, size_t counts_len, uint8_t *lengths,
+                      size_t lengths_len);
 
 #ifdef __cplusplus
 }

@@ -1,5 +1,22 @@
-// Everything that a call may be lent, and what it hands back beside that.
+// What a call is timed on, everything that it may be lent, and what it hands back beside that.
 use crate::strips::Strip;
+
+// The mark lists of a strip; its job, or texts in one byte list; the byte counts of the texts.
+#[derive(Default)]
+pub struct Input {
+    pub places: Vec<i16>,
+    pub lengths: Vec<u8>,
+    pub weights: Vec<u16>,
+    pub bytes: Vec<u8>,
+    pub counts: Vec<u16>,
+}
+
+impl Input {
+    pub fn of(strip: &Strip) -> Input {
+        let Strip { places, lengths, weights } = strip.clone();
+        Input { places, lengths, weights, ..Input::default() }
+    }
+}
 
 #[derive(PartialEq)]
 pub struct Lists {
@@ -15,8 +32,8 @@ pub struct Lists {
 }
 
 impl Lists {
-    pub fn of(strip: &Strip) -> Lists {
-        let marks = strip.places.len();
+    pub fn of(input: &Input) -> Lists {
+        let marks = input.places.len();
         Lists {
             number: 99,
             bytes: vec![0; 24_002],

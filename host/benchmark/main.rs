@@ -1,5 +1,5 @@
 // Times each exported call against the same algorithm in plain Rust, and built with `--cfg compared` against the same call of an earlier
-// archive too, on the same strips in the same run, and prints the ratios and how the full pass grows from 2,000 to 4,000 marks.
+// archive too, on the same strips, jobs and texts in the same run, and prints the ratios and how the full pass grows from 2,000 to 4,000 marks.
 #[path = "../shared/calls.rs"]
 mod calls;
 #[path = "../shared/random.rs"]
@@ -11,7 +11,7 @@ mod lists;
 mod plain;
 mod timing;
 
-use lists::Lists;
+use lists::{Input, Lists};
 use random::Random;
 use std::ops::Range;
 use strips::{fitting_strip, Shape, Strip};
@@ -57,56 +57,113 @@ fn all_but_four_left_out(strips: usize) -> Vec<Strip> {
     };
     let strips: Vec<Strip> = (0..strips).map(crowd).collect();
     for strip in &strips {
-        let mut lists = Lists::of(strip);
-        exported::best(strip, &[], &mut lists);
+        let input = Input::of(strip);
+        let mut lists = Lists::of(&input);
+        exported::best(&input, &mut lists);
         assert_eq!(lists.count, 56);
     }
     strips
 }
 
-// The jobs of strips.
-fn jobs(strips: &[Strip]) -> Vec<Vec<u8>> {
-    let job = |strip: &Strip| {
-        let mut lists = Lists::of(strip);
-        exported::write(strip, &[], &mut lists);
-        lists.bytes[..lists.count].to_vec()
+// Strips with their jobs.
+fn with_jobs(strips: &[Strip]) -> Vec<Input> {
+    let with_job = |strip: &Strip| {
+        let mut input = Input::of(strip);
+        let mut lists = Lists::of(&input);
+        exported::write(&input, &mut lists);
+        input.bytes = lists.bytes[..lists.count].to_vec();
+        input
     };
-    strips.iter().map(job).collect()
+    strips.iter().map(with_job).collect()
+}
+
+// Sets of 4,000 texts, of so many letters each, none wider than a label may be.
+fn texts(sets: usize, letters: Range<usize>) -> Vec<Input> {
+    let text = |random: &mut Random| {
+        let count = letters.start + random.below(letters.len());
+        let mut text: Vec<u8> = (0..count).map(|_| random.between(32, 126) as u8).collect();
+        while plain::font::width(&text) > 240 {
+            text[random.below(count)] = b'i';
+        }
+        text
+    };
+    let set = |seed: usize| {
+        let mut random = Random::new(seed as u64 + 1);
+        let texts: Vec<Vec<u8>> = (0..4_000).map(|_| text(&mut random)).collect();
+        Input { counts: texts.iter().map(|text| text.len() as u16).collect(), bytes: texts.concat(), ..Input::default() }
+    };
+    (0..sets).map(set).collect()
 }
 
 // The calls of one archive, as they are timed, with a gap if its passes take one.
 macro_rules! runs {
     ($calls:path $(, $gap:expr)?) => {
-        use crate::{lists::Lists, strips::Strip};
+        use crate::lists::{Input, Lists};
         use $calls as calls;
 
-        pub fn full(s: &Strip, _: &[u8], l: &mut Lists) {
-            l.number = calls::full(&s.places, &s.lengths, &s.weights, $($gap,)? &mut l.bytes, &mut l.work_i16);
+        pub fn full(i: &Input, l: &mut Lists) {
+            l.number = calls::full(&i.places, &i.lengths, &i.weights, $($gap,)? &mut l.bytes, &mut l.work_i16);
         }
 
-        pub fn slide(s: &Strip, _: &[u8], l: &mut Lists) {
+        pub fn slide(i: &Input, l: &mut Lists) {
             let (sides, edges, work) = (&mut l.bytes, &mut l.edges, &mut l.work_u16);
-            l.number = calls::slide(&s.places, &s.lengths, &s.weights, $($gap,)? sides, edges, work);
+            l.number = calls::slide(&i.places, &i.lengths, &i.weights, $($gap,)? sides, edges, work);
         }
 
-        pub fn best(s: &Strip, _: &[u8], l: &mut Lists) {
+        pub fn best(i: &Input, l: &mut Lists) {
             let (positions, left_out, work) = (&mut l.bytes, &mut l.words, &mut l.work_u32);
             let (sum, count) = (&mut l.sum, &mut l.count);
-            l.number = calls::best(&s.places, &s.lengths, &s.weights, $($gap,)? positions, left_out, work, sum, count);
+            l.number = calls::best(&i.places, &i.lengths, &i.weights, $($gap,)? positions, left_out, work, sum, count);
         }
 
-        pub fn read(_: &Strip, job: &[u8], l: &mut Lists) {
-            l.number = calls::read(job, &mut l.edges, &mut l.bytes, &mut l.words, &mut l.count);
+        pub fn read(i: &Input, l: &mut Lists) {
+            l.number = calls::read(&i.bytes, &mut l.edges, &mut l.bytes, &mut l.words, &mut l.count);
         }
 
-        pub fn write(s: &Strip, _: &[u8], l: &mut Lists) {
-            l.number = calls::write(&s.places, &s.lengths, &s.weights, &mut l.bytes, &mut l.count);
+        pub fn write(i: &Input, l: &mut Lists) {
+            l.number = calls::write(&i.places, &i.lengths, &i.weights, &mut l.bytes, &mut l.count);
+        }
+    };
+}
+
+// Makes a call on each text with its number, counted from 0; the greatest of what they give.
+fn each_text(input: &Input, mut call: impl FnMut(usize, &[u8]) -> u8) -> u8 {
+    let mut left = &input.bytes[..];
+    let mut most = 0;
+    for (at, count) in input.counts.iter().enumerate() {
+        let (text, rest) = left.split_at(*count as usize);
+        most = most.max(call(at, text));
+        left = rest;
+    }
+    most
+}
+
+// The calls on texts of one archive.
+macro_rules! runs_of_texts {
+    ($calls:path) => {
+        pub mod of_texts {
+            use crate::each_text;
+            use crate::lists::{Input, Lists};
+            use $calls as calls;
+
+            pub fn lengths(i: &Input, l: &mut Lists) {
+                l.number = calls::lengths(&i.bytes, &i.counts, &mut l.bytes);
+            }
+
+            pub fn measure(i: &Input, l: &mut Lists) {
+                l.number = each_text(i, |at, text| calls::measure(text, &mut l.bytes[at]));
+            }
+
+            pub fn beginning(i: &Input, l: &mut Lists) {
+                l.number = each_text(i, |_, text| calls::beginning(text, &mut l.count));
+            }
         }
     };
 }
 
 mod exported {
     runs!(crate::calls, crate::gap());
+    runs_of_texts!(crate::calls);
 }
 
 #[cfg(compared)]
@@ -115,27 +172,41 @@ mod earlier {
     runs!(::before, crate::gap());
     #[cfg(without_gap)]
     runs!(::before);
+    #[cfg(not(without_texts))]
+    runs_of_texts!(::before);
 }
 
-fn plain_full(s: &Strip, _: &[u8], l: &mut Lists) {
-    l.number = plain::full::full(&s.places, &s.lengths, &s.weights, gap(), &mut l.bytes, &mut l.work_i16);
+fn plain_full(i: &Input, l: &mut Lists) {
+    l.number = plain::full::full(&i.places, &i.lengths, &i.weights, gap(), &mut l.bytes, &mut l.work_i16);
 }
 
-fn plain_slide(s: &Strip, _: &[u8], l: &mut Lists) {
-    l.number = plain::slide::slide(&s.places, &s.lengths, &s.weights, gap(), &mut l.bytes, &mut l.edges, &mut l.work_u16);
+fn plain_slide(i: &Input, l: &mut Lists) {
+    l.number = plain::slide::slide(&i.places, &i.lengths, &i.weights, gap(), &mut l.bytes, &mut l.edges, &mut l.work_u16);
 }
 
-fn plain_best(s: &Strip, _: &[u8], l: &mut Lists) {
-    let answer = plain::best::best(&s.places, &s.lengths, &s.weights, gap(), &mut l.bytes, &mut l.words, &mut l.work_u32);
+fn plain_best(i: &Input, l: &mut Lists) {
+    let answer = plain::best::best(&i.places, &i.lengths, &i.weights, gap(), &mut l.bytes, &mut l.words, &mut l.work_u32);
     (l.number, l.sum, l.count) = (answer.number, answer.sum, answer.count);
 }
 
-fn plain_read(_: &Strip, job: &[u8], l: &mut Lists) {
-    l.number = plain::job::read(job, &mut l.edges, &mut l.bytes, &mut l.words, &mut l.count);
+fn plain_read(i: &Input, l: &mut Lists) {
+    l.number = plain::job::read(&i.bytes, &mut l.edges, &mut l.bytes, &mut l.words, &mut l.count);
 }
 
-fn plain_write(s: &Strip, _: &[u8], l: &mut Lists) {
-    l.number = plain::job::write(&s.places, &s.lengths, &s.weights, &mut l.bytes, &mut l.count);
+fn plain_write(i: &Input, l: &mut Lists) {
+    l.number = plain::job::write(&i.places, &i.lengths, &i.weights, &mut l.bytes, &mut l.count);
+}
+
+fn plain_lengths(i: &Input, l: &mut Lists) {
+    l.number = plain::font::lengths(&i.bytes, &i.counts, &mut l.bytes);
+}
+
+fn plain_measure(i: &Input, l: &mut Lists) {
+    l.number = each_text(i, |at, text| plain::font::measure(text, &mut l.bytes[at]));
+}
+
+fn plain_beginning(i: &Input, l: &mut Lists) {
+    l.number = each_text(i, |_, text| plain::font::beginning(text, &mut l.count));
 }
 
 // A call and what it is timed against; the same call of the earlier archive where there is one.
@@ -152,11 +223,29 @@ macro_rules! sides {
     };
 }
 
+// The same for a call on texts.
+macro_rules! sides_of_texts {
+    ($call:ident, $plain:ident) => {
+        Sides {
+            exported: exported::of_texts::$call,
+            plain: $plain,
+            #[cfg(all(compared, not(without_texts)))]
+            before: Some(earlier::of_texts::$call),
+            #[cfg(not(all(compared, not(without_texts))))]
+            before: None,
+        }
+    };
+}
+
 const FULL: Sides = sides!(full, plain_full);
 const SLIDE: Sides = sides!(slide, plain_slide);
 const BEST: Sides = sides!(best, plain_best);
 const READ: Sides = sides!(read, plain_read);
 const WRITE: Sides = sides!(write, plain_write);
+
+const LENGTHS: Sides = sides_of_texts!(lengths, plain_lengths);
+const MEASURE: Sides = sides_of_texts!(measure, plain_measure);
+const BEGINNING: Sides = sides_of_texts!(beginning, plain_beginning);
 
 fn print_table(rows: &[Row]) {
     let compared = rows.iter().any(|row| row.before.is_some());
@@ -170,25 +259,31 @@ fn print_table(rows: &[Row]) {
 }
 
 fn main() {
-    let half = fitting(MANY, 2_000, SHORT);
-    let whole = fitting(MANY, 4_000, SHORT);
-    let short = fitting(MANY, 60, SHORT);
-    let long = fitting(MANY, 60, LONG);
-    let (front, end) = (crowded(&whole, 0..30), crowded(&whole, 3_970..4_000));
+    let half = with_jobs(&fitting(MANY, 2_000, SHORT));
+    let strips = fitting(MANY, 4_000, SHORT);
+    let whole = with_jobs(&strips);
+    let (front, end) = (with_jobs(&crowded(&strips, 0..30)), with_jobs(&crowded(&strips, 3_970..4_000)));
+    let short = with_jobs(&fitting(MANY, 60, SHORT));
+    let long = with_jobs(&fitting(MANY, 60, LONG));
     let (few, few_long) = (&short[..FEW], &long[..FEW]);
-    let crowd = &all_but_four_left_out(FEW);
+    let crowd = &with_jobs(&all_but_four_left_out(FEW));
+    let (words, lines) = (texts(FEW, 1..21), texts(FEW, 27..61));
     let rows = [
-        row("full, 2,000 marks", &half, &jobs(&half), 0, FULL),
-        row("full, 4,000 marks", &whole, &jobs(&whole), 0, FULL),
-        row("full, 4,000 marks, no placing of the first 30", &front, &jobs(&front), 11, FULL),
-        row("full, 4,000 marks, no placing of the last 30", &end, &jobs(&end), 11, FULL),
-        row("slide, 60 marks, lengths to 20", &short, &jobs(&short), 0, SLIDE),
-        row("slide, 60 marks, lengths to 240", &long, &jobs(&long), 0, SLIDE),
-        row("best, 60 marks, lengths to 20", few, &jobs(few), 0, BEST),
-        row("best, 60 marks, lengths to 240", few_long, &jobs(few_long), 0, BEST),
-        row("best, 60 marks, all but four left out", crowd, &jobs(crowd), 0, BEST),
-        row("read, 4,000 marks", &whole, &jobs(&whole), 0, READ),
-        row("write, 4,000 marks", &whole, &jobs(&whole), 0, WRITE),
+        row("full, 2,000 marks", &half, 0, FULL),
+        row("full, 4,000 marks", &whole, 0, FULL),
+        row("full, 4,000 marks, no placing of the first 30", &front, 11, FULL),
+        row("full, 4,000 marks, no placing of the last 30", &end, 11, FULL),
+        row("slide, 60 marks, lengths to 20", &short, 0, SLIDE),
+        row("slide, 60 marks, lengths to 240", &long, 0, SLIDE),
+        row("best, 60 marks, lengths to 20", few, 0, BEST),
+        row("best, 60 marks, lengths to 240", few_long, 0, BEST),
+        row("best, 60 marks, all but four left out", crowd, 0, BEST),
+        row("read, 4,000 marks", &whole, 0, READ),
+        row("write, 4,000 marks", &whole, 0, WRITE),
+        row("lengths, 4,000 texts of 1 to 20 letters", &words, 0, LENGTHS),
+        row("lengths, 4,000 texts of 27 to 60 letters", &lines, 0, LENGTHS),
+        row("measure, the 4,000 of 1 to 20 letters one by one", &words, 0, MEASURE),
+        row("beginning, the 4,000 of 27 to 60 letters one by one", &lines, 0, BEGINNING),
     ];
     print_table(&rows);
     println!("\nfull from 2,000 to 4,000 marks: {:.2} times the time", growth(exported::full, &half, &whole));

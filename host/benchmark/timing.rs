@@ -1,7 +1,6 @@
-// Medians of many rounds, the sides in turn. A round goes once through a set of strips, so that no branch predictor learns one
-// strip by heart. Time is the processor time of this thread, so that other work on the machine does not count.
-use crate::lists::Lists;
-use crate::strips::Strip;
+// Medians of many rounds, the sides in turn. A round goes once through a set of inputs, so that no branch predictor learns one
+// by heart. Time is the processor time of this thread, so that other work on the machine does not count.
+use crate::lists::{Input, Lists};
 
 const ROUNDS: usize = 201;
 
@@ -32,8 +31,8 @@ pub struct Row {
     pub before: Option<f64>,
 }
 
-// A call on a strip and its job, with what it is lent.
-type Run = fn(&Strip, &[u8], &mut Lists);
+// A call on what it is given, with what it is lent.
+type Run = fn(&Input, &mut Lists);
 
 pub struct Sides {
     pub exported: Run,
@@ -41,27 +40,26 @@ pub struct Sides {
     pub before: Option<Run>,
 }
 
-// One side: its lists for each strip, warm after the first round.
+// One side: its lists for each input, warm after the first round.
 struct Side<'a> {
     run: Run,
-    strips: &'a [Strip],
-    jobs: &'a [Vec<u8>],
+    inputs: &'a [Input],
     lists: Vec<Lists>,
     times: Vec<f64>,
 }
 
 impl Side<'_> {
-    fn new<'a>(run: Run, strips: &'a [Strip], jobs: &'a [Vec<u8>]) -> Side<'a> {
-        Side { run, strips, jobs, lists: strips.iter().map(Lists::of).collect(), times: Vec::new() }
+    fn new(run: Run, inputs: &[Input]) -> Side<'_> {
+        Side { run, inputs, lists: inputs.iter().map(Lists::of).collect(), times: Vec::new() }
     }
 
-    // One round; microseconds of one call, as the mean over the strips.
+    // One round; microseconds of one call, as the mean over the inputs.
     fn round(&mut self) {
         let start = nanoseconds();
         for (i, lists) in self.lists.iter_mut().enumerate() {
-            (self.run)(&self.strips[i], &self.jobs[i], lists);
+            (self.run)(&self.inputs[i], lists);
         }
-        self.times.push((nanoseconds() - start) / self.strips.len() as f64 / 1_000.0);
+        self.times.push((nanoseconds() - start) / self.inputs.len() as f64 / 1_000.0);
     }
 
     fn median(&mut self) -> f64 {
@@ -78,10 +76,10 @@ fn in_turn(sides: &mut [Side]) {
     }
 }
 
-// All sides on the same strips, which must be given the number, and by plain Rust the same answers.
-pub fn row(name: &'static str, strips: &[Strip], jobs: &[Vec<u8>], number: u8, runs: Sides) -> Row {
+// All sides on the same inputs, which must be given the number, and by plain Rust the same answers.
+pub fn row(name: &'static str, inputs: &[Input], number: u8, runs: Sides) -> Row {
     let all = [Some(runs.exported), Some(runs.plain), runs.before];
-    let mut sides: Vec<Side> = all.into_iter().flatten().map(|run| Side::new(run, strips, jobs)).collect();
+    let mut sides: Vec<Side> = all.into_iter().flatten().map(|run| Side::new(run, inputs)).collect();
     in_turn(&mut sides);
     let agrees = |side: &Side| side.lists.iter().all(|lists| lists.number == number);
     assert!(sides.iter().all(agrees), "{name}: another number than {number}");
@@ -90,10 +88,9 @@ pub fn row(name: &'static str, strips: &[Strip], jobs: &[Vec<u8>], number: u8, r
     Row { name, exported: times[0], plain: times[1], before: times.get(2).copied() }
 }
 
-// How many times as long a call takes on the second set of strips as on the first.
-pub fn growth(run: Run, strips: &[Strip], more: &[Strip]) -> f64 {
-    let jobs = vec![Vec::new(); strips.len().max(more.len())];
-    let mut sides = [Side::new(run, strips, &jobs), Side::new(run, more, &jobs)];
+// How many times as long a call takes on the second set of inputs as on the first.
+pub fn growth(run: Run, inputs: &[Input], more: &[Input]) -> f64 {
+    let mut sides = [Side::new(run, inputs), Side::new(run, more)];
     in_turn(&mut sides);
     sides[1].median() / sides[0].median()
 }

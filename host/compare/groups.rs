@@ -1,10 +1,11 @@
-// The groups of strips and jobs. Each must meet every number that it names, so that no group passes by trying nothing.
+// The groups of strips, jobs and texts. Each must meet every number that it names, so that no group passes by trying nothing.
 use crate::codec::Job;
 use crate::marks::{damage_strip, some_call, some_gap, spoil, Call, Limits, FAULTS};
 use crate::near::{any_strip, some_strip};
 use crate::random::Random;
 use crate::strips::{fitting_strip, Shape, Strip};
-use crate::{best, full, job, slide};
+use crate::texts::{many_counts, some_filling, some_text, Filling};
+use crate::{best, full, job, slide, texts};
 use std::fmt::Debug;
 
 // Runs one group: `make` gives a case, `compare` the number that both sides agree on or what differs.
@@ -17,7 +18,7 @@ fn group<C: Debug>(
     compare: impl Fn(&mut Random, &C) -> Result<u8, String>,
 ) -> usize {
     let mut random = Random::new(seed);
-    let mut seen = [0; 13];
+    let mut seen = [0; 14];
     for _ in 0..cases {
         let case = make(&mut random);
         match compare(&mut random, &case) {
@@ -195,6 +196,16 @@ fn to_10(random: &mut Random, limits: &Limits) -> Call {
     small_call(random, 10, limits)
 }
 
+fn few_texts(random: &mut Random) -> Filling {
+    let texts = random.below(9);
+    some_filling(random, texts)
+}
+
+fn many_texts(random: &mut Random) -> Filling {
+    let texts = [random.below(4_001), 3_999, 4_000, 4_001][random.below(4)];
+    some_filling(random, texts)
+}
+
 pub fn run_all() -> usize {
     let reader = |random: &mut Random, case: &ReadCase| job::compare_read(random, &case.bytes, case.rooms);
     let writer = |random: &mut Random, case: &WriteCase| job::compare_write(random, &case.strip, case.room);
@@ -219,6 +230,11 @@ pub fn run_all() -> usize {
         group("read, to 4,000 marks", 10, 1_000, &[0, 1, 2, 3, 4, 5, 9], |r| read_case(r, 4_000), reader),
         group("write, to 40 marks", 11, 15_000, &[0, 6, 7, 8, 9], |r| write_case(r, 40), writer),
         group("write, to 4,000 marks", 12, 2_000, &[0, 6, 7, 8, 9], |r| write_case(r, 4_000), writer),
+        group("measure", 21, 40_000, &[0, 8, 13], some_text, |r, text| texts::compare_measure(r, text)),
+        group("beginning", 22, 30_000, &[0, 13], some_text, |r, text| texts::compare_beginning(r, text)),
+        group("lengths, to 8 texts", 23, 40_000, &[0, 6, 8, 9, 13], few_texts, texts::compare_lengths),
+        group("lengths, to 4,001 texts", 24, 500, &[0, 6, 7, 8, 9, 13], many_texts, texts::compare_lengths),
+        group("lengths, counts whose sum passes 32 bits", 25, 10, &[6], many_counts, texts::compare_lengths),
     ]
     .iter()
     .sum()

@@ -1,6 +1,6 @@
-// Compares the five exported calls with implementations that share nothing with them, on strips and jobs from a fixed generator:
+// Compares the eight exported calls with implementations that share nothing with them, on strips, jobs and texts from a fixed generator:
 // numbers, answers, sums and counts, and lent memory with guard elements around every buffer. One line a group; a disagreement prints
-// its strip or job, and ends with status 1.
+// its case, and ends with status 1.
 #[path = "../shared/calls.rs"]
 mod calls;
 #[path = "../shared/random.rs"]
@@ -18,8 +18,9 @@ mod lent;
 mod marks;
 mod near;
 mod slide;
+mod texts;
 
 fn main() {
     let total = groups::run_all();
-    println!("{total} strips and jobs, no difference");
+    println!("{total} strips, jobs and texts, no difference");
 }

@@ -31,7 +31,7 @@ fn is_unequal(strip: &Strip) -> bool {
 }
 
 // The number of the first rule that applies, in the order of the list, 0 if none does.
-fn first_number(rules: &[(bool, u8)]) -> u8 {
+pub fn first_number(rules: &[(bool, u8)]) -> u8 {
     rules.iter().find(|(applies, _)| *applies).map_or(0, |(_, number)| *number)
 }
 

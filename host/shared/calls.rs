@@ -1,4 +1,4 @@
-// The five calls of include/strip.h, on slices: a slice is a pointer and its count of elements, never null and never overlapping
+// The eight calls of include/strip.h, on slices: a slice is a pointer and its count of elements, never null and never overlapping
 // another that is lent to the same call, so every use is within the header's rules. Built with `--cfg before` from an earlier
 // commit they are those of its archive, whose names host/bench lengthens so that both can be linked.
 
@@ -76,6 +76,19 @@ extern "C" {
         job: *mut u8,
         job_len: usize,
         length: *mut usize,
+    ) -> u8;
+    #[cfg_attr(before, link_name = "before_strip_measure")]
+    fn strip_measure(text: *const u8, text_len: usize, length: *mut u8) -> u8;
+    #[cfg_attr(before, link_name = "before_strip_beginning")]
+    fn strip_beginning(text: *const u8, text_len: usize, count: *mut usize) -> u8;
+    #[cfg_attr(before, link_name = "before_strip_lengths")]
+    fn strip_lengths(
+        texts: *const u8,
+        texts_len: usize,
+        counts: *const u16,
+        counts_len: usize,
+        lengths: *mut u8,
+        lengths_len: usize,
     ) -> u8;
 }
 
@@ -187,4 +200,16 @@ pub fn write(places: &[i16], lengths: &[u8], weights: &[u16], job: &mut [u8], le
             length,
         )
     }
+}
+
+pub fn measure(text: &[u8], length: &mut u8) -> u8 {
+    unsafe { strip_measure(text.as_ptr(), text.len(), length) }
+}
+
+pub fn beginning(text: &[u8], count: &mut usize) -> u8 {
+    unsafe { strip_beginning(text.as_ptr(), text.len(), count) }
+}
+
+pub fn lengths(texts: &[u8], counts: &[u16], lengths: &mut [u8]) -> u8 {
+    unsafe { strip_lengths(texts.as_ptr(), texts.len(), counts.as_ptr(), counts.len(), lengths.as_mut_ptr(), lengths.len()) }
 }

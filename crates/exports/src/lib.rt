@@ -2,3 +2,4 @@
 // below it. What a call below hands back in a struct goes to the returned number and to out values, which are set at every return.
 mod jobs;
 mod passes;
+mod texts;

@@ -4,15 +4,16 @@
 use mathlib.Core.Path.{_≡_, refl, _∙_, ap}
 use mathlib.Core.Bool.{Bool, true, false, _&&_}
 use mathlib.Core.List.{List, [], _∷_}
-use Prim.Native.Nat.{ℕ, suc, _+_, _<_}
+use Prim.Native.Nat.{ℕ, zero, suc, _+_, _<_}
 use native.Mathlib.Numerals.{add-one}
 use native.Mathlib.Omega.{arith}
 use lib.IntN.{ℤ}
 use lib.Signed.{ltZ}
-use lib.ListN.{length, getD, drop}
+use lib.ListN.{length, getD, take, drop}
 use lib.Seq.{drop-cons, drop-length}
 use Rattle.geometry.specs.Lists.{every}
 use Rattle.geometry.specs.Mark.{rising}
+use Rattle.geometry.proofs.Split.{both, and-fst, and-snd}
 
 and-moves : (good here rest : Bool) → (good && (here && rest)) ≡ ((good && here) && rest)
 and-moves true here rest = refl
@@ -54,3 +55,17 @@ pub rising-none : (zs : List ℤ) → length zs ≡ 0 → rising zs ≡ true
 unfolding rising
 rising-none [] e = refl
 rising-none (z ∷ zs) e = absurd (omega arith)
+
+-- what every element of a list passes, every element of a part passes
+module _ {A : Type 0} (p : A → Bool) where
+  pub every-take : (n : ℕ) (xs : List A) → every p xs ≡ true → every p (take n xs) ≡ true
+  unfolding every
+  every-take zero xs e = refl
+  every-take (suc n) [] e = refl
+  every-take (suc n) (x ∷ xs) e = both (p x) (every p (take n xs)) (and-fst (p x) (every p xs) e) (every-take n xs (and-snd (p x) (every p xs) e))
+
+  pub every-drop : (n : ℕ) (xs : List A) → every p xs ≡ true → every p (drop n xs) ≡ true
+  unfolding every
+  every-drop zero xs e = e
+  every-drop (suc n) [] e = refl
+  every-drop (suc n) (x ∷ xs) e = every-drop n xs (and-snd (p x) (every p xs) e)

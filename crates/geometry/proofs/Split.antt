@@ -7,7 +7,7 @@ use Prim.Native.Nat.{ℕ, _≤_, _<_, max}
 use native.Mathlib.Omega.{arith}
 use native.Mathlib.Decide.{decLe}
 use lib.Dec.{leb, ltb, eqb}
-use borrow.Author.Tests.{le-leb, leb-true, leb-false, ltb-true, ltb-false, eqb-true, eqb-false}
+use borrow.Author.Tests.{le-leb, leb-true, leb-false, ltb-true, ltb-false, eq-eqb, eqb-true, eqb-false}
 
 -- a goal about a test, from the goal at each of its two answers
 pub by-bool {ℓ} : (t : Bool) (P : Bool → Type ℓ) → (t ≡ true → P true) → (t ≡ false → P false) → P t
@@ -28,6 +28,13 @@ pub same-answer : (s t : Bool) → (s ≡ true → t ≡ true) → (t ≡ true �
 same-answer true t f g = sym (f refl)
 same-answer false true f g = g refl
 same-answer false false f g = refl
+
+-- so a test is that of a bound, or of two numbers, if it holds exactly where they stand so
+pub is-leb : (n m : ℕ) {t : Bool} → (t ≡ true → n ≤ m) × (n ≤ m → t ≡ true) → t ≡ leb n m
+is-leb n m (so, only-so) = same-answer _ _ (λ test. le-leb n m (so test)) (λ test. only-so (leb-true n m test))
+
+pub is-eqb : (n m : ℕ) {t : Bool} → (t ≡ true → n ≡ m) × (n ≡ m → t ≡ true) → t ≡ eqb n m
+is-eqb n m (so, only-so) = same-answer _ _ (λ test. eq-eqb n m (so test)) (λ test. only-so (eqb-true n m test))
 
 -- of two comparisons this is said by numbers; a test of less is one of at most, of the number after
 pub same-test : (a b c d : ℕ) → (a ≤ b → c ≤ d) → (c ≤ d → a ≤ b) → leb a b ≡ leb c d
@@ -58,9 +65,13 @@ pub and-snd : (s t : Bool) → (s && t) ≡ true → t ≡ true
 and-snd true t e = e
 and-snd false t e = absurd (mathlib.Core.Bool.false≢true e)
 
--- a number from 1 to a greatest one, by its test
+-- a number from a least to a greatest one, by its test
+pub least-to : (least most v : ℕ) → (leb least v && leb v most) ≡ true → (least ≤ v) × (v ≤ most)
+least-to least most v e =
+    (leb-true least v (and-fst (leb least v) (leb v most) e), leb-true v most (and-snd (leb least v) (leb v most) e))
+
 pub one-to : (most v : ℕ) → (leb 1 v && leb v most) ≡ true → (1 ≤ v) × (v ≤ most)
-one-to most v e = (leb-true 1 v (and-fst (leb 1 v) (leb v most) e), leb-true v most (and-snd (leb 1 v) (leb v most) e))
+one-to = least-to 1
 
 -- a test does not have both answers
 pub clash {ℓ} : {X : Type ℓ} {t : Bool} → t ≡ true → t ≡ false → X

@@ -2,20 +2,20 @@
 -- the first failure of the first list, if there is one, else that of the second. The checks of a pass before its work never give 11: each
 -- has its own number, and 11 is none of them.
 use mathlib.Core.Path.{_≡_, refl, sym, _∙_, ap}
-use mathlib.Core.Bool.{Bool, true, false, not}
+use mathlib.Core.Bool.{Bool, true, false, not, false≢true}
 use mathlib.Core.List.{List, [], _∷_, _++_, append-assoc}
 use Prim.Native.Nat.{ℕ, _≤_}
 use native.Mathlib.Omega.{arith}
 use lib.Dec.{leb, eqb}
-use borrow.Author.Tests.{le-leb, leb-true, eqb-false, not-true}
+use borrow.Author.Tests.{eqb-false, not-true}
 use Rattle.geometry.specs.Lists.{every}
 use Rattle.geometry.specs.Strip.{Strip}
 use Rattle.geometry.specs.Pass.{passVerdict}
 use Rattle.geometry.specs.Refusal.{Refusal, bytesEnd, strayBit, absentValue, outOfRange, bytesLeftOver, listsUnequal, tooManyMarks}
-use Rattle.geometry.specs.Refusal.{badMark, listTooShort, workTooShort, noPlacing, gapTooWide, refusalNumber}
+use Rattle.geometry.specs.Refusal.{badMark, listTooShort, workTooShort, noPlacing, gapTooWide, strayByte, refusalNumber}
 use Rattle.geometry.specs.Refusal.{Verdict, accepted, refused, numberOf, Check, atMost, afterCheck, firstFailure}
-use Rattle.geometry.specs.inner.OnEntry.{numberOfChecks, CheckNumber}
-use Rattle.geometry.proofs.Split.{by-bool, same-answer, and-fst, and-snd}
+use Rattle.geometry.specs.inner.Checks.{numberOfChecks, CheckNumber}
+use Rattle.geometry.proofs.Split.{by-bool, is-leb, and-fst, and-snd}
 
 -- no refusal has the number 0
 pub refusal-positive : (r : Refusal) → refusalNumber r ≡ 0 → ⊥
@@ -31,6 +31,7 @@ refusal-positive listTooShort e = omega arith
 refusal-positive workTooShort e = omega arith
 refusal-positive noPlacing e = omega arith
 refusal-positive gapTooWide e = omega arith
+refusal-positive strayByte e = omega arith
 
 -- so number 0 is acceptance
 pub zero-accepted : (v : Verdict) → numberOf v ≡ 0 → v ≡ accepted
@@ -117,15 +118,33 @@ one-passed c =
     by-bool (c .passes) (λ t. afterCheck t (c .otherwise) accepted ≡ accepted → t ≡ true) (λ _ _. refl)
     (λ _ e. absurd (refused-other (c .otherwise) e))
 
+-- and the first of a list
+pub first-passed : (c : Check) (cs : List Check) → firstFailure (c ∷ cs) ≡ accepted → (c .passes ≡ true) × (firstFailure cs ≡ accepted)
+first-passed c cs e = let parts = both-passed (c ∷ []) cs e in (one-passed c (parts .0), parts .1)
+
 pub pass-one : (c : Check) → c .passes ≡ true → firstFailure (c ∷ []) ≡ accepted
 unfolding firstFailure
 pass-one c e = rw e refl
 
+pub fail-one : (c : Check) → c .passes ≡ false → firstFailure (c ∷ []) ≡ refused (c .otherwise)
+unfolding firstFailure
+fail-one c e = rw e refl
+
+-- a test that the check behind it needs too, with that one's refusal, refuses nothing more
+after-part : (t u : Bool) (r : Refusal) (v : Verdict) → (u ≡ true → t ≡ true) → afterCheck t r (afterCheck u r v) ≡ afterCheck u r v
+after-part true u r v needs = refl
+after-part false true r v needs = absurd (false≢true (needs refl))
+after-part false false r v needs = refl
+
+pub part-first : (t : Bool) (c : Check) (cs : List Check) → (c .passes ≡ true → t ≡ true)
+    → firstFailure (record { passes = t; otherwise = c .otherwise } ∷ c ∷ cs) ≡ firstFailure (c ∷ cs)
+unfolding firstFailure
+part-first t c cs needs = after-part t (c .passes) (c .otherwise) (firstFailure cs) needs
+
 -- the number of the check that a count is at most so many, from a test that holds exactly where it is
 pub count-number : (n m : ℕ) (r : Refusal) {passes : Bool} {otherwise number : ℕ} → CheckNumber passes otherwise number
     → (passes ≡ true → n ≤ m) × (n ≤ m → passes ≡ true) × (otherwise ≡ refusalNumber r) → number ≡ numberOfChecks (atMost n m r ∷ [])
-count-number n m r check (so, only-so, is) =
-    check (leb n m) r (same-answer _ _ (λ test. le-leb n m (so test)) (λ test. only-so (leb-true n m test))) is
+count-number n m r check (so, only-so, is) = check (leb n m) r (is-leb n m (so, only-so)) is
 
 -- whether a check's refusal is another than 11
 abbrev not11 : Check → Bool

@@ -1,5 +1,5 @@
 -- "Where the labeller says no": the refusal numbers, and "The first check that is not passed decides." Document 02, P2: "12, gap over 8
--- [..]; it and every later number join document 01's table."
+-- [..]; it and every later number join document 01's table." P4: "13, a byte outside 32 to 126".
 use Prim.Native.Nat.{ℕ}
 use mathlib.Core.List.{List, [], _∷_}
 use mathlib.Core.Bool.{Bool, true, false}
@@ -18,6 +18,7 @@ pub data Refusal : Type 0 where
   workTooShort : Refusal
   noPlacing : Refusal
   gapTooWide : Refusal
+  strayByte : Refusal
 
 abbrev pub refusalNumber : Refusal → ℕ
 refusalNumber bytesEnd = 1
@@ -32,6 +33,7 @@ refusalNumber listTooShort = 9
 refusalNumber workTooShort = 10
 refusalNumber noPlacing = 11
 refusalNumber gapTooWide = 12
+refusalNumber strayByte = 13
 
 pub data Verdict : Type 0 where
   accepted : Verdict

@@ -1,6 +1,7 @@
 -- Definitions that no public contract names.
 pub mod At
 pub mod Each
+pub mod Checks
 pub mod OnEntry
 pub mod Outside
 pub mod Place

@@ -8,7 +8,9 @@ ghost use Rattle.geometry.specs.Strip.{strip, mostMarks};
 ghost use Rattle.geometry.specs.Entry.{sameLengths, goodPlaces, goodLabels, goodMarks, entry};
 ghost use Rattle.geometry.specs.Pass.{passVerdict};
 ghost use Rattle.geometry.specs.Refusal.{numberOf};
-ghost use Rattle.geometry.specs.inner.OnEntry.{CheckNumber, FirstNumber, NumberOnEntry};
+ghost use Rattle.geometry.specs.inner.OnEntry.{NumberOnEntry};
+use crate::checks::check;
+use crate::checks::first_refusal;
 use crate::limits::LEAST_PLACE;
 use crate::limits::MOST_GAP;
 use crate::limits::MOST_LENGTH;
@@ -124,26 +126,6 @@ fn good_marks(places: &[i16], lengths: &[u8], weights: &[u16]) -> bool
     ensures { λ r. ⌜ r ≡ goodMarks (strip (now (places .entry)) (now (lengths .entry)) (now (weights .entry))) ⌝ }
 {
     good_places(places) && good_labels(lengths, weights)
-}
-
-// The number of one check: 0 where it passes, else that of its refusal.
-fn check(passes: bool, otherwise: u8) -> u8
-    ensures { λ r. ⌜ CheckNumber passes otherwise r ⌝ }
-{
-    if passes {
-        return 0;
-    }
-    otherwise
-}
-
-// Of two numbers the first that is a refusal, 0 if neither is.
-fn first_refusal(first: u8, second: u8) -> u8
-    ensures { λ r. ⌜ FirstNumber first second r ⌝ }
-{
-    if first != 0 {
-        return first;
-    }
-    second
 }
 
 // The number of the first check on entry that is not passed, 0 if all are, for a call that takes at most `limit` marks. `own` is what

@@ -22,3 +22,5 @@ pub const WORK_TOO_SHORT: u8 = 10;
 pub const NO_PLACING: u8 = 11;
 
 pub const GAP_TOO_WIDE: u8 = 12;
+
+pub const STRAY_BYTE: u8 = 13;

@@ -1,5 +1,6 @@
-// The algorithms of the five calls in plain Rust, as one would write them without proofs: what the exported calls are timed against.
+// The algorithms of the calls in plain Rust, as one would write them without proofs: what the exported calls are timed against.
 pub mod best;
+pub mod font;
 pub mod full;
 pub mod job;
 pub mod slide;

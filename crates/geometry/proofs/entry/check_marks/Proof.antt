@@ -9,7 +9,7 @@ use borrow.Author.Tests.{le-leb, leb-true}
 use Rattle.geometry.specs.Strip.{Strip, strip, mostMarks}
 use Rattle.geometry.specs.Refusal.{Check, listsUnequal, tooManyMarks, badMark}
 use Rattle.geometry.specs.Entry.{sameLengths, goodMarks, listsChecks, countChecks, valueChecks}
-use Rattle.geometry.specs.inner.OnEntry.{numberOfChecks}
+use Rattle.geometry.specs.inner.Checks.{numberOfChecks}
 use Rattle.geometry.proofs.Verdicts.{early-stands, early-passes, count-number}
 use Rattle.geometry.proofs.entry.check_marks.Statement.{statement}
 use Rattle.geometry.proofs.entry.check_marks.Tie as tie

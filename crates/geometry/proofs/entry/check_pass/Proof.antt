@@ -8,7 +8,7 @@ use Rattle.geometry.specs.Strip.{Strip, strip}
 use Rattle.geometry.specs.Refusal.{gapTooWide, listTooShort, workTooShort}
 use Rattle.geometry.specs.Entry.{entryChecks}
 use Rattle.geometry.specs.Pass.{mostGap, gapChecks, answerChecks, workChecks, passVerdict}
-use Rattle.geometry.specs.inner.OnEntry.{numberOfChecks}
+use Rattle.geometry.specs.inner.Checks.{numberOfChecks}
 use Rattle.geometry.proofs.Verdicts.{early-stands, early-passes, count-number}
 use Rattle.geometry.proofs.entry.check_pass.Statement.{statement}
 use Rattle.geometry.proofs.entry.check_pass.Tie as tie

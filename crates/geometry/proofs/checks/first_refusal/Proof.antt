@@ -1,7 +1,7 @@
--- `geometry::entry::first_refusal` meets its contract: whether the first number is 0 decides.
+-- `geometry::checks::first_refusal` meets its contract: whether the first number is 0 decides.
 use Rattle.geometry.proofs.Verdicts.{number-stands, number-passes}
-use Rattle.geometry.proofs.entry.first_refusal.Statement.{statement}
-use Rattle.geometry.proofs.entry.first_refusal.Tie as tie
+use Rattle.geometry.proofs.checks.first_refusal.Statement.{statement}
+use Rattle.geometry.proofs.checks.first_refusal.Tie as tie
 
 returns : tie.Need-returns
 returns c cs ds first second = number-stands cs ds first (c .if1 .taken)

@@ -1,8 +1,8 @@
--- `geometry::entry::check` meets its contract: the test decides.
+-- `geometry::checks::check` meets its contract: the test decides.
 use mathlib.Core.Path.{refl, sym, _∙_}
 use Rattle.geometry.specs.Refusal.{firstFailure}
-use Rattle.geometry.proofs.entry.check.Statement.{statement}
-use Rattle.geometry.proofs.entry.check.Tie as tie
+use Rattle.geometry.proofs.checks.check.Statement.{statement}
+use Rattle.geometry.proofs.checks.check.Tie as tie
 
 returns : tie.Need-returns
 unfolding firstFailure

@@ -1,0 +1,7 @@
+-- Laws that belong to no one function, in reading order.
+pub mod Table
+pub mod Widths
+pub mod Beginnings
+pub mod CutTexts
+pub mod Going
+pub mod Contract

@@ -1,0 +1,3 @@
+-- Definitions that no public contract names.
+pub mod Table
+pub mod Counts
