@@ -145,6 +145,21 @@ module _ (texts counts : List ℕ) (room : ℕ) where
       pub lengths-decide : {n : ℕ} → n ≡ numberOfChecks ofLengths → n ≡ numberOf (lengthsVerdict texts counts room)
       lengths-decide is = later-decides (number-passes ofBytes ofLengths bytes-are bytes-passed is)
 
+  -- past all checks the texts can be measured, their lengths are in range, and the list is long enough
+  pub accepted-parts : lengthsVerdict texts counts room ≡ accepted
+      → ReadableTexts texts counts × (every lengthInRange (lengthsOf counts texts) ≡ true) × (length counts ≤ room)
+  unfolding lengthsVerdict
+  accepted-parts passed =
+      let six = first-passed (sumCheck texts counts) _ passed in
+      let seven = first-passed (atMost (length counts) mostMarks tooManyMarks) _ (six .1) in
+      let thirteen = first-passed (letterCheck texts) _ (seven .1) in
+      let eight = first-passed (lengthCheck (every lengthInRange (lengthsOf counts texts))) _ (thirteen .1) in
+      let sum = eqb-true (sumList counts) (length texts) (six .0) in (
+        record { adds-up = sum; letters-good = thirteen .0; counts-good = counts-of-good counts texts sum (eight .0) },
+        eight .0,
+        leb-true (length counts) room (one-passed (atMost (length counts) room listTooShort) (eight .1)),
+      )
+
 module _ (texts counts entry : List ℕ) where
   -- `lengths`: a refusal, and the lengths
   after-refusal : (v : Verdict) (lengths : List ℕ) → (numberOf v ≡ 0 → ⊥) → entry ≡ lengthsAfter v lengths entry
@@ -159,19 +174,8 @@ module _ (texts counts entry : List ℕ) where
     passed : lengthsVerdict texts counts (length entry) ≡ accepted
     passed = zero-accepted (lengthsVerdict texts counts (length entry)) (sym is ∙ none)
 
-    -- past all checks the texts can be measured, and the list is long enough
     pub ready-to-fill : ReadableTexts texts counts × (every lengthInRange (lengthsOf counts texts) ≡ true) × (length counts ≤ length entry)
-    unfolding lengthsVerdict
-    ready-to-fill =
-        let six = first-passed (sumCheck texts counts) _ passed in
-        let seven = first-passed (atMost (length counts) mostMarks tooManyMarks) _ (six .1) in
-        let thirteen = first-passed (letterCheck texts) _ (seven .1) in
-        let eight = first-passed (lengthCheck (every lengthInRange (lengthsOf counts texts))) _ (thirteen .1) in
-        let sum = eqb-true (sumList counts) (length texts) (six .0) in (
-          record { adds-up = sum; letters-good = thirteen .0; counts-good = counts-of-good counts texts sum (eight .0) },
-          eight .0,
-          leb-true (length counts) (length entry) (one-passed (atMost (length counts) (length entry) listTooShort) (eight .1)),
-        )
+    ready-to-fill = accepted-parts texts counts (length entry) passed
 
     pub filled-texts : {exit : List ℕ} → exit ≡ written (lengthsOf counts texts) entry → LengthsContract texts counts entry exit 0
     filled-texts filled = record { number-is = sym none ∙ is; lengths-are = rw passed filled }

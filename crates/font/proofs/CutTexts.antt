@@ -10,7 +10,8 @@ use lib.ListN.{length, getD, take, drop, length-drop, take-append-drop, drop-of-
 use lib.Seq.{drop-cons, drop-length, length-take-le}
 use Rattle.geometry.specs.Lists.{every, sumList}
 use Rattle.geometry.specs.Mark.{lengthInRange}
-use Rattle.geometry.proofs.Split.{both, and-fst, and-snd}
+use Rattle.geometry.proofs.Accepted.{first-good, rest-good}
+use Rattle.geometry.proofs.Split.{both}
 use Rattle.font.specs.Text.{textWidth, textsOf, lengthsOf}
 use Rattle.font.specs.inner.Counts.{countFits}
 use Rattle.font.proofs.Widths.{count-of-good}
@@ -35,9 +36,11 @@ pub counts-of-good : (counts bytes : List ℕ) → sumList counts ≡ length byt
 unfolding every textsOf sumList
 counts-of-good [] bytes sum good = refl
 counts-of-good (n ∷ counts) bytes sum good =
-    let here = and-fst (lengthInRange (textWidth (take n bytes))) _ good in
-    let rest = and-snd (lengthInRange (textWidth (take n bytes))) _ good in
-    both (countFits n) _
+    let width = textWidth (take n bytes) in
+    let others = lengthsOf counts (drop n bytes) in
+    let here = first-good lengthInRange width others good in
+    let rest = rest-good lengthInRange width others good in
+    both (countFits n) (every countFits counts)
     (subst (λ (k : ℕ). countFits k ≡ true) (length-take-le n bytes (omega arith)) (count-of-good (take n bytes) here))
     (counts-of-good counts (drop n bytes) (omega (arith, length-drop n bytes)) rest)
 

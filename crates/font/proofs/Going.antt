@@ -11,9 +11,10 @@ use lib.Seq.{drop-cons, drop-length, drop-drop, length-take-le, append-snoc}
 use Rattle.geometry.specs.Lists.{every, sumList}
 use Rattle.geometry.specs.Mark.{mostLength, lengthInRange}
 use Rattle.geometry.specs.Pass.{written}
+use Rattle.geometry.proofs.Accepted.{first-good, rest-good}
 use Rattle.geometry.proofs.Every.{every-take, every-drop}
 use Rattle.geometry.proofs.Lent.{take-more, drop-more, written-whole}
-use Rattle.geometry.proofs.Split.{and-fst, and-snd, one-to}
+use Rattle.geometry.proofs.Split.{one-to}
 use Rattle.font.specs.Letters.{inFont}
 use Rattle.font.specs.Text.{textWidth, textsOf, lengthsOf}
 use Rattle.font.specs.inner.Counts.{mostBytes, countFits, Readable, ReadableTexts, Going, textAt}
@@ -42,8 +43,7 @@ module _ (texts counts : List ℕ) (at i : ℕ) (going : Going texts counts at i
     counts-fit = subst (λ (l : List ℕ). every countFits l ≡ true) counts-next (going .left .counts-good)
 
     next-fits : (1 ≤ next) × (next ≤ mostBytes)
-    unfolding every
-    next-fits = one-to mostBytes next (and-fst (countFits next) _ counts-fit)
+    next-fits = one-to mostBytes next (first-good countFits next (drop (i + 1) counts) counts-fit)
 
     letters-left : every inFont (drop (at + next) texts) ≡ true
     letters-left =
@@ -72,13 +72,12 @@ module _ (texts counts : List ℕ) (at i : ℕ) (going : Going texts counts at i
       text-within = omega (arith, end-within, text-long)
 
       pub going-on : Going texts counts (at + length text) (i + 1)
-      unfolding every
       going-on =
           rw text-long
           (record {
             passed = omega arith;
             within = end-within;
-            left = record { adds-up = sum-left; letters-good = letters-left; counts-good = and-snd (countFits next) _ counts-fit };
+            left = record { adds-up = sum-left; letters-good = letters-left; counts-good = rest-good countFits next (drop (i + 1) counts) counts-fit };
           })
 
       -- its length is the first of those that were left
@@ -132,17 +131,15 @@ module _ (texts counts entry : List ℕ) where
 
       -- the next length has room in a byte
       pub next-small : textWidth text ≤ mostLength
-      unfolding every
-      next-small = one-to mostLength (textWidth text) (and-fst (lengthInRange (textWidth text)) _ next-good) .1
+      next-small = one-to mostLength (textWidth text) (first-good lengthInRange (textWidth text) rest next-good) .1
 
       -- it is written
       pub filling-on : {w : ℕ} → w ≡ textWidth text → Filling texts counts entry (set list i w) (at + length text) (i + 1)
-      unfolding every
       filling-on {w} width-is =
           let within : i < length list = omega (arith, filling .long, filling .roomy) in
           record {
             going = going-on texts counts at i (filling .going) h is;
-            left-good = and-snd (lengthInRange (textWidth text)) _ next-good;
+            left-good = rest-good lengthInRange (textWidth text) rest next-good;
             so-far =
                 rw (take-more i w list within, width-is) (append-snoc (take i list) (textWidth text) rest)
                 ∙ ap (λ (l : List ℕ). take i list ++ l) (sym next-is) ∙ filling .so-far;

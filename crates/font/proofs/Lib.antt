@@ -5,3 +5,5 @@ pub mod Beginnings
 pub mod CutTexts
 pub mod Going
 pub mod Contract
+pub mod FilledLengths
+pub mod TextExample

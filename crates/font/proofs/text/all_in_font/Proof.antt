@@ -20,9 +20,6 @@ abbrev μ-loop : tie.MeasureT-loop
 loop-holds : tie.Need-loop-holds Inv-loop μ-loop
 loop-holds c = (omega arith, refl)
 
-shared-slice-read-in-font : tie.Need-shared-slice-read-in-font Inv-loop μ-loop
-shared-slice-read-in-font c = omega arith
-
 loop-again : tie.Need-loop-again Inv-loop μ-loop
 loop-again c =
     let turn = c .before .before .before in
@@ -36,4 +33,4 @@ returns c =
 pub all-in-font-spec : {M : Type 1} → statement M
 all-in-font-spec =
     tie.close
-    (tie.spec Inv-loop μ-loop loop-holds shared-slice-read-in-font (λ c κs. search needs) (λ c. omega arith) (λ c. omega arith) loop-again returns)
+    (tie.spec Inv-loop μ-loop loop-holds (λ c. omega arith) (λ c κs. search needs) (λ c. omega arith) (λ c. omega arith) loop-again returns)

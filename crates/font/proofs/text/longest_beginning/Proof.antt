@@ -18,9 +18,6 @@ abbrev μ-loop : tie.MeasureT-loop
 loop-holds : tie.Need-loop-holds Inv-loop μ-loop
 loop-holds c = (omega arith, omega arith)
 
-shared-slice-read-width-in : tie.Need-shared-slice-read-width-in Inv-loop μ-loop
-shared-slice-read-width-in c = omega arith
-
 width-in-requires : tie.Need-width-in-requires Inv-loop μ-loop
 width-in-requires c κs =
     let turn = c .before .before in
@@ -32,12 +29,6 @@ returns c =
     let called = c .before in
     let turn = called .before .before .before in
     room-none _ (turn .loop .i) (turn .loop .room) (turn .loop .inv .1) (omega arith) (omega (arith, called .width-in .ensures))
-
-add-i : tie.Need-add-i Inv-loop μ-loop
-add-i c = omega arith
-
-loop-less : tie.Need-loop-less Inv-loop μ-loop
-loop-less c = omega arith
 
 loop-again : tie.Need-loop-again Inv-loop μ-loop
 loop-again c =
@@ -58,10 +49,10 @@ longest-beginning-spec =
     Inv-loop
     μ-loop
     loop-holds
-    shared-slice-read-width-in
+    (λ c. omega arith)
     width-in-requires
     returns
-    add-i
-    loop-less
+    (λ c. omega arith)
+    (λ c. omega arith)
     loop-again
     returns-2)

@@ -21,9 +21,6 @@ abbrev μ-loop : tie.MeasureT-loop
 loop-holds : tie.Need-loop-holds Inv-loop μ-loop
 loop-holds c = (omega arith, omega arith)
 
-shared-slice-read-width-in : tie.Need-shared-slice-read-width-in Inv-loop μ-loop
-shared-slice-read-width-in c = omega arith
-
 width-in-requires : tie.Need-width-in-requires Inv-loop μ-loop
 width-in-requires c κs =
     let turn = c .before .before in
@@ -35,12 +32,6 @@ add-sum c =
     let turn = c .before .before .before in
     let text = turn .before .before .args .text .now in
     omega (arith, c .width-in .ensures, width-next text (turn .loop .i) (omega arith), text-between text, turn .before .before .pre .1 .few)
-
-add-i : tie.Need-add-i Inv-loop μ-loop
-add-i c = omega arith
-
-loop-less : tie.Need-loop-less Inv-loop μ-loop
-loop-less c = omega arith
 
 loop-again : tie.Need-loop-again Inv-loop μ-loop
 loop-again c =
@@ -55,4 +46,4 @@ returns c =
 pub width-spec : {M : Type 1} → statement M
 width-spec =
     tie.close
-    (tie.spec Inv-loop μ-loop loop-holds shared-slice-read-width-in width-in-requires add-sum add-i loop-less loop-again returns)
+    (tie.spec Inv-loop μ-loop loop-holds (λ c. omega arith) width-in-requires add-sum (λ c. omega arith) (λ c. omega arith) loop-again returns)

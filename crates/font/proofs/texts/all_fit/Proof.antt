@@ -65,12 +65,6 @@ add-at c =
     let k = c .before .before in
     omega (arith, text-within (texts k) (counts k) _ _ (turn k .loop .inv .0) (k .before .loop-test .taken) (k .text-at .ensures))
 
-add-i : tie.Need-add-i Inv-loop μ-loop
-add-i c = omega arith
-
-loop-less : tie.Need-loop-less Inv-loop μ-loop
-loop-less c = omega arith
-
 loop-again : tie.Need-loop-again Inv-loop μ-loop
 loop-again c =
     let f = c .before in
@@ -92,4 +86,4 @@ returns-2 c =
 pub all-fit-spec : {M : Type 1} → statement M
 all-fit-spec =
     tie.close
-    (tie.spec Inv-loop μ-loop loop-holds text-at-requires text-fits-requires returns add-at add-i loop-less loop-again returns-2)
+    (tie.spec Inv-loop μ-loop loop-holds text-at-requires text-fits-requires returns add-at (λ c. omega arith) (λ c. omega arith) loop-again returns-2)

@@ -17,15 +17,6 @@ Inv-loop counts bytes left₀ i₀ left i = (i ≤ length counts) × (sumList co
 abbrev μ-loop : tie.MeasureT-loop
 μ-loop counts bytes left₀ i₀ left i = length counts - i
 
-loop-holds : tie.Need-loop-holds Inv-loop μ-loop
-loop-holds c = omega arith
-
-mul-count : tie.Need-mul-count Inv-loop μ-loop
-mul-count c = omega arith
-
-shared-slice-read-count : tie.Need-shared-slice-read-count Inv-loop μ-loop
-shared-slice-read-count c = omega arith
-
 cast-count : tie.Need-cast-count Inv-loop μ-loop
 cast-count c = omega (arith, c .shared-slice-known .given (c .before .before .loop .i))
 
@@ -34,12 +25,6 @@ returns c =
     let turn = c .before .before .before in
     let counts = turn .before .args .counts .now in
     sym (ne-eqb (sumList counts) (turn .before .args .bytes) (omega (arith, sum-next counts (turn .loop .i) (omega arith))))
-
-add-i : tie.Need-add-i Inv-loop μ-loop
-add-i c = omega arith
-
-loop-less : tie.Need-loop-less Inv-loop μ-loop
-loop-less c = omega arith
 
 loop-again : tie.Need-loop-again Inv-loop μ-loop
 loop-again c =
@@ -58,12 +43,12 @@ counts-add-up-spec =
     (tie.spec
     Inv-loop
     μ-loop
-    loop-holds
-    mul-count
-    shared-slice-read-count
+    (λ c. omega arith)
+    (λ c. omega arith)
+    (λ c. omega arith)
     cast-count
     returns
-    add-i
-    loop-less
+    (λ c. omega arith)
+    (λ c. omega arith)
     loop-again
     returns-2)

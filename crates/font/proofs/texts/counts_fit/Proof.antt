@@ -20,12 +20,6 @@ abbrev μ-loop : tie.MeasureT-loop
 loop-holds : tie.Need-loop-holds Inv-loop μ-loop
 loop-holds c = (omega arith, refl)
 
-mul-count-fits : tie.Need-mul-count-fits Inv-loop μ-loop
-mul-count-fits c = omega arith
-
-shared-slice-read-count-fits : tie.Need-shared-slice-read-count-fits Inv-loop μ-loop
-shared-slice-read-count-fits c = omega arith
-
 cast-count-fits : tie.Need-cast-count-fits Inv-loop μ-loop
 cast-count-fits c = omega (arith, c .shared-slice-known2 .given (c .before .before .loop .i))
 
@@ -46,8 +40,8 @@ counts-fit-spec =
     Inv-loop
     μ-loop
     loop-holds
-    mul-count-fits
-    shared-slice-read-count-fits
+    (λ c. omega arith)
+    (λ c. omega arith)
     cast-count-fits
     (λ c κs. search needs)
     (λ c. omega arith)

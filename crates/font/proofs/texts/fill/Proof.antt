@@ -54,12 +54,6 @@ add-at c =
     let k = c .before in
     omega (arith, text-within (texts k) (counts k) _ _ (turn k .loop .inv .going) (k .before .loop-test .taken) (k .text-at .ensures))
 
-add-i : tie.Need-add-i Inv-loop μ-loop
-add-i c = omega arith
-
-loop-less : tie.Need-loop-less Inv-loop μ-loop
-loop-less c = omega arith
-
 loop-again : tie.Need-loop-again Inv-loop μ-loop
 loop-again c =
     let k = c .before in
@@ -83,8 +77,8 @@ fill-spec =
     cast-lengths
     slice-write-lengths
     add-at
-    add-i
-    loop-less
+    (λ c. omega arith)
+    (λ c. omega arith)
     loop-again
     same-length
     returns)
