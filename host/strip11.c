@@ -1,4 +1,4 @@
-/* Strip 11 of document 01 through all five calls, from C, at gap 0; at gap 1 it no longer slides. Exit status 1 at a difference. */
+/* Strip 11 of document 01 through the passes and the job calls, from C, at gap 0; at gap 1 it no longer slides. Exit status 1 at a difference. */
 #include "strip.h"
 
 #include <stdio.h>

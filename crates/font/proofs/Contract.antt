@@ -1,7 +1,7 @@
 -- The calls meet their contracts. Each makes its checks in the contract's order, but tests 8 in two parts: the count of bytes, and the
 -- width where the count fits. A length in range has a count that fits, so the test of the count refuses nothing that 8 does not.
 use mathlib.Core.Path.{_≡_, refl, sym, _∙_, ap}
-use mathlib.Core.Bool.{Bool, true, false}
+use mathlib.Core.Bool.{Bool, true}
 use mathlib.Core.List.{List, [], _∷_, _++_}
 use Prim.Native.Nat.{ℕ, _≤_, _<_}
 use native.Mathlib.Omega.{arith}

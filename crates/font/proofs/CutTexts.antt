@@ -1,9 +1,9 @@
 -- Texts that stand one after the other in a byte list, and what their counts say. Past check 6 the counts cut the list into its texts and
 -- nothing is left over; a text whose length is in range then has a count that fits.
 use mathlib.Core.Path.{_≡_, refl, sym, _∙_, ap, subst}
-use mathlib.Core.Bool.{Bool, true, _&&_}
+use mathlib.Core.Bool.{true}
 use mathlib.Core.List.{List, [], _∷_, _++_, flatten}
-use Prim.Native.Nat.{ℕ, suc, _+_, _≤_, _<_}
+use Prim.Native.Nat.{ℕ, suc, _+_, _<_}
 use native.Mathlib.Numerals.{add-one}
 use native.Mathlib.Omega.{arith}
 use lib.ListN.{length, getD, take, drop, length-drop, take-append-drop, drop-of-length-le}

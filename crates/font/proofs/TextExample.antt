@@ -1,8 +1,7 @@
 -- Three texts computed from the definitions: "Wind 7" is 9 + 3 + 6 + 6 + 4 + 6 = 34 dots; of "il" written 41 times, 246 dots, the longest
 -- beginning has 80 bytes; and "a", " i", "m" in one byte list have the lengths 6, 7 and 9.
 use mathlib.Core.Path.{_≡_, refl}
-use mathlib.Core.List.{List, [], _∷_, flatten}
-use Prim.Native.Nat.{ℕ}
+use mathlib.Core.List.{[], _∷_, flatten}
 use lib.ListN.{replicate}
 use Rattle.geometry.specs.Lists.{anyOf, sumList}
 use Rattle.font.specs.Letters.{widthOf}

@@ -1,9 +1,9 @@
 -- Every letter is 3 to 9 dots wide, so the count of a text's bytes bounds its width on both sides: an empty text has width 0, one of
 -- more than 80 bytes is over 240 dots, and one of 1 to 26 is from 1 to 240.
-use mathlib.Core.Path.{_≡_, refl, sym, _∙_}
-use mathlib.Core.Bool.{Bool, true, false, cond, _&&_}
+use mathlib.Core.Path.{_≡_, refl, _∙_}
+use mathlib.Core.Bool.{Bool, true, false, cond}
 use mathlib.Core.List.{List, [], _∷_}
-use Prim.Native.Nat.{ℕ, suc, _+_, _*_, _≤_, _<_}
+use Prim.Native.Nat.{ℕ, _+_, _*_, _≤_, _<_}
 use native.Mathlib.Numerals.{add-one}
 use native.Mathlib.Omega.{arith}
 use lib.Dec.{leb, eqb}
@@ -12,7 +12,7 @@ use lib.Seq.{drop-cons, drop-length}
 use borrow.Author.Tests.{le-leb}
 use Rattle.geometry.specs.Lists.{sumList}
 use Rattle.geometry.specs.Mark.{mostLength, lengthInRange}
-use Rattle.geometry.proofs.Split.{both, one-to, same-test}
+use Rattle.geometry.proofs.Split.{both, one-to}
 use Rattle.font.specs.Letters.{space, narrow, wide, isOneOf, widthOf}
 use Rattle.font.specs.Text.{textWidth}
 use Rattle.font.specs.inner.Counts.{mostBytes, sureBytes, countFits}

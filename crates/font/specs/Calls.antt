@@ -14,7 +14,7 @@ use Rattle.geometry.specs.Pass.{written}
 use Rattle.font.specs.Letters.{inFont}
 use Rattle.font.specs.Text.{textWidth, IsLongest, longestBeginning, lengthsOf}
 use Rattle.font.specs.declared.answer.Measured.{Measured}
-use Rattle.font.specs.declared.answer.Begun.{Begun}
+use Rattle.font.specs.declared.answer.Beginning.{Beginning}
 
 -- "13, a byte outside 32 to 126, tested before the width": over all bytes that are handed over
 abbrev pub letterCheck : List ℕ → Check
@@ -42,7 +42,7 @@ unfoldable pub beginningVerdict : List ℕ → Verdict
 beginningVerdict text = firstFailure (letterCheck text ∷ [])
 
 -- the count by its definition, and in document 02's words
-pub record BeginningContract (text : List ℕ) (r : Begun) : Type 0 where
+pub record BeginningContract (text : List ℕ) (r : Beginning) : Type 0 where
   pub number-is : r .number ≡ numberOf (beginningVerdict text)
   pub count-is : r .count ≡ valueAfter (beginningVerdict text) (longestBeginning text)
   pub longest : beginningVerdict text ≡ accepted → IsLongest text (r .count)

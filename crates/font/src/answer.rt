@@ -4,7 +4,7 @@ pub struct Measured {
     pub length: u8,
 }
 
-pub struct Begun {
+pub struct Beginning {
     pub number: u8,
     pub count: usize,
 }

@@ -5,7 +5,7 @@ mod text;
 mod texts;
 
 ghost use Rattle.font.specs.Calls.{MeasureContract, BeginningContract, LengthsContract};
-use crate::answer::Begun;
+use crate::answer::Beginning;
 use crate::answer::Measured;
 use crate::letters::table;
 use geometry::checks::check;
@@ -37,14 +37,14 @@ pub fn measure(text: &[u8]) -> Measured
 }
 
 // How many bytes the longest beginning of a text has that is at most 240 dots; 13 if a byte of the text is outside the font.
-pub fn beginning(text: &[u8]) -> Begun
+pub fn beginning(text: &[u8]) -> Beginning
     ensures { λ r. ⌜ BeginningContract (now (text .entry)) r ⌝ }
 {
     let number = check(text::all_in_font(text), STRAY_BYTE);
     if number != 0 {
-        return Begun { number, count: 0 };
+        return Beginning { number, count: 0 };
     }
-    Begun {
+    Beginning {
         number: 0,
         count: text::longest_beginning(&table(), text),
     }

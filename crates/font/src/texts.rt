@@ -75,7 +75,7 @@ fn text_at<'a>(texts: &'a [u8], counts: &[u16], at: usize, i: usize) -> &'a [u8]
     &texts[at..end]
 }
 
-// Whether all texts do.
+// Whether all texts are at most 240 dots.
 fn all_fit(widths: &Widths, texts: &[u8], counts: &[u16]) -> bool
     requires { ⌜ (isFont (now widths) ≡ true) × ReadableTexts (now texts) (now counts) ⌝ }
     ensures { λ r. ⌜ r ≡ every lengthInRange (lengthsOf (now (counts .entry)) (now (texts .entry))) ⌝ }

@@ -52,12 +52,14 @@ pub fn beginning(text: &[u8], count: &mut usize) -> u8 {
         return 13;
     }
     let mut room = 240;
-    let has_room = |byte: &&u8| {
-        let width = WIDTHS[**byte as usize] as i32;
-        room -= width;
-        room >= 0
-    };
-    *count = text.iter().take_while(has_room).count();
+    for (i, byte) in text.iter().enumerate() {
+        room -= WIDTHS[*byte as usize] as i32;
+        if room < 0 {
+            *count = i;
+            return 0;
+        }
+    }
+    *count = text.len();
     0
 }
 

@@ -4,7 +4,7 @@ use mathlib.Core.List.{List}
 use Prim.Native.Nat.{ℕ}
 use borrow.Author.Needs.{needs}
 use Rattle.geometry.specs.Lists.{every}
-use Rattle.geometry.specs.Refusal.{numberOf, strayByte, firstFailure}
+use Rattle.geometry.specs.Refusal.{numberOf, strayByte}
 use Rattle.geometry.proofs.Verdicts.{zero-accepted, one-passed}
 use Rattle.font.specs.Letters.{inFont}
 use Rattle.font.specs.Calls.{letterCheck, beginningVerdict}

@@ -1,5 +1,5 @@
 -- `font::measure` meets its contract: 13 and the count come first, and where they are passed the width decides.
-use mathlib.Core.Path.{_≡_, refl, _∙_}
+use mathlib.Core.Path.{_≡_, refl}
 use mathlib.Core.List.{List, [], _∷_}
 use Prim.Native.Nat.{ℕ}
 use native.Mathlib.Omega.{arith}

@@ -1,6 +1,5 @@
 -- `font::text::longest_beginning` meets its contract: the bytes so far and those that still have room are the longest beginning.
-use mathlib.Core.Path.{_≡_, refl, sym}
-use Prim.Native.Nat.{_+_, _≤_, _-_}
+use Prim.Native.Nat.{_≤_, _-_}
 use native.Mathlib.Omega.{arith}
 use lib.ListN.{length}
 use Rattle.geometry.proofs.Accepted.{every-at}

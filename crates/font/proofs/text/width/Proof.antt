@@ -1,12 +1,11 @@
 -- `font::text::width` meets its contract: the sum so far and the width of what is left are the width of the text, which has so few bytes
 -- that it fits 32 bits.
-use mathlib.Core.Path.{_≡_, refl}
-use mathlib.Core.Bool.{true}
+use mathlib.Core.Path.{_≡_}
 use Prim.Native.Nat.{_+_, _≤_, _-_}
 use native.Mathlib.Omega.{arith}
-use lib.ListN.{length, getD, drop}
+use lib.ListN.{length, drop}
 use Rattle.geometry.proofs.Accepted.{every-at}
-use Rattle.font.specs.Letters.{inFont, widthOf}
+use Rattle.font.specs.Letters.{inFont}
 use Rattle.font.specs.Text.{textWidth}
 use Rattle.font.proofs.Widths.{text-between, width-next, width-ends}
 use Rattle.font.proofs.text.width.Statement.{statement}

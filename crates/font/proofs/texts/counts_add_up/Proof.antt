@@ -1,9 +1,9 @@
 -- `font::texts::counts_add_up` meets its contract: the counts so far and what is left of the bytes are all bytes, so the counts add up
 -- exactly if those that are left add up to what is left.
-use mathlib.Core.Path.{_≡_, refl, sym}
+use mathlib.Core.Path.{_≡_, sym}
 use Prim.Native.Nat.{_+_, _≤_, _-_}
 use native.Mathlib.Omega.{arith}
-use lib.ListN.{length, getD, drop}
+use lib.ListN.{length, drop}
 use borrow.Author.Tests.{eq-eqb, ne-eqb, eqb-true}
 use Rattle.geometry.specs.Lists.{sumList}
 use Rattle.geometry.proofs.Split.{is-eqb}

@@ -1,5 +1,4 @@
 -- `font::texts::fill` meets its contract: the lengths written so far and those that are left are the lengths of all texts.
-use mathlib.Core.Path.{_≡_}
 use mathlib.Core.List.{List}
 use Prim.Native.Nat.{ℕ, _-_}
 use native.Mathlib.Omega.{arith}
