@@ -1,4 +1,4 @@
-// A test program: document 01's strips, each boundary, jobs, listings and texts. It prints a line for each group, and a line for each case that
+// A test program: document 01's strips, each boundary, jobs and listings. It prints a line for each group, and a line for each case that
 // disagrees.
 mod counts;
 mod crowds;
@@ -9,7 +9,6 @@ mod lent;
 mod listings;
 mod passes;
 mod ranges;
-mod texts;
 mod worked;
 
 use agreed::tally;
@@ -24,5 +23,4 @@ fn main() {
     tally::print_group(b"job bytes", jobs::jobs());
     tally::print_group(b"left-out lists", crowds::crowds());
     tally::print_group(b"listings", listings::listings());
-    tally::print_group(b"texts", texts::texts());
 }

@@ -1,8 +1,8 @@
--- `cases::texts::as_wide` is safe and ends: `i` rises to 256.
+-- `texts::widths::as_wide` is safe and ends: `i` rises to 256.
 use Prim.Native.Nat.{_≤_, _-_}
 use borrow.Author.Needs.{needs}
-use Rattle.cases.proofs.texts.as_wide.Statement.{statement}
-use Rattle.cases.proofs.texts.as_wide.Tie as tie
+use Rattle.texts.proofs.widths.as_wide.Statement.{statement}
+use Rattle.texts.proofs.widths.as_wide.Tie as tie
 
 abbrev Inv-loop : tie.InvT-loop
 Inv-loop width count₀ i₀ count i = i ≤ 256
