@@ -1,5 +1,6 @@
 // Times each exported call against the same algorithm in plain Rust, and built with `--cfg compared` against the same call of an earlier
-// archive too, on the same strips, jobs and texts in the same run, and prints the ratios and how the full pass grows from 2,000 to 4,000 marks.
+// archive too, on the same strips, jobs and texts in the same run, and prints the ratios and how the full pass grows from 2,000 to 4,000
+// marks.
 #[path = "../shared/calls.rs"]
 mod calls;
 #[path = "../shared/random.rs"]
@@ -155,7 +156,11 @@ macro_rules! runs_of_texts {
             }
 
             pub fn beginning(i: &Input, l: &mut Lists) {
-                l.number = each_text(i, |_, text| calls::beginning(text, &mut l.count));
+                l.number = each_text(i, |at, text| {
+                    let number = calls::beginning(text, &mut l.count);
+                    l.bytes[at] = l.count as u8;
+                    number
+                });
             }
         }
     };
@@ -206,7 +211,11 @@ fn plain_measure(i: &Input, l: &mut Lists) {
 }
 
 fn plain_beginning(i: &Input, l: &mut Lists) {
-    l.number = each_text(i, |_, text| plain::font::beginning(text, &mut l.count));
+    l.number = each_text(i, |at, text| {
+        let number = plain::font::beginning(text, &mut l.count);
+        l.bytes[at] = l.count as u8;
+        number
+    });
 }
 
 // A call and what it is timed against; the same call of the earlier archive where there is one.

@@ -15,7 +15,7 @@ use Rattle.geometry.specs.Mark.{mostLength, lengthInRange}
 use Rattle.geometry.proofs.Split.{both, one-to}
 use Rattle.font.specs.Letters.{space, narrow, wide, isOneOf, widthOf}
 use Rattle.font.specs.Text.{textWidth}
-use Rattle.font.specs.inner.Counts.{mostBytes, sureBytes, countFits}
+use Rattle.font.specs.inner.Counts.{mostBytes, countFits}
 
 -- whatever the rule's three tests say
 chosen-between : (t u v : Bool) → let w : ℕ = cond t 4 (cond u 3 (cond v 9 6)) in (3 ≤ w) × (w ≤ 9)
@@ -54,6 +54,6 @@ module _ (text : List ℕ) (some : 1 ≤ length text) where
   pub range-of-some : lengthInRange (textWidth text) ≡ leb (textWidth text) mostLength
   range-of-some = let n = text-between text in rw (le-leb 1 (textWidth text) (omega arith)) refl
 
-  -- and surely so if they are few
-  pub sure-of-few : length text ≤ sureBytes → lengthInRange (textWidth text) ≡ true
+  -- and surely so if they are few, no more than `SURE_BYTES`
+  pub sure-of-few : length text ≤ 26 → lengthInRange (textWidth text) ≡ true
   sure-of-few few = let n = text-between text in range-of-some ∙ le-leb (textWidth text) mostLength (omega arith)

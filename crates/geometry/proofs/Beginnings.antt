@@ -67,7 +67,7 @@ mirror-labelled (unlabelled ∷ ps) e = e
 mirror-labelled (at s d ∷ ps) e = mirror-labelled ps e
 
 -- an unbeaten part layout of ms behind which ns can be placed
-pub record Beginning (g : ℕ) (ms ns : List Mark) : Type 0 where
+pub record Begun (g : ℕ) (ms ns : List Mark) : Type 0 where
   pub first : List Position
   pub rest : List Position
   pub first-placed : IsPlacing g ms first
@@ -113,7 +113,7 @@ module _ (g : ℕ) (ms ns : List Mark) (rise : Rising ms) (big : Beyond emptyRea
 
   -- a part layout with these positions and a rest behind it leads to an unbeaten one
   abbrev Leads : List Position → Type 0
-  Leads ps = (rs : List Position) → IsPlacing g ms ps → allLabelled rs ≡ true → Behind g ms ns ps rs → Beginning g ms ns
+  Leads ps = (rs : List Position) → IsPlacing g ms ps → allLabelled rs ≡ true → Behind g ms ns ps rs → Begun g ms ns
 
   -- on to a part layout qs that beats ps
   onward : (ps qs : List Position) → Leads qs → Member qs (partLayouts g ms) → Smaller (pairOf ms qs) (pairOf ms ps) → Leads ps
@@ -129,7 +129,7 @@ module _ (g : ℕ) (ms ns : List Mark) (rise : Rising ms) (big : Beyond emptyRea
   step : (n : ℕ) → ((qs : List Position) → height qs < n → Leads qs) → (ps : List Position) → height ps ≤ n → Leads ps
   unfolding unbeaten
   step n lower ps few rs placed labels h =
-      by-bool (unbeaten g ms ps) (λ t. unbeaten g ms ps ≡ t → Beginning g ms ns)
+      by-bool (unbeaten g ms ps) (λ t. unbeaten g ms ps ≡ t → Begun g ms ns)
       (λ _ u. record {
         first = ps;
         rest = rs;
@@ -140,7 +140,7 @@ module _ (g : ℕ) (ms ns : List Mark) (rise : Rising ms) (big : Beyond emptyRea
       })
       (λ _ u. beaten (one-fails (λ qs. not (beats (pairOf ms qs) (pairOf ms ps))) (partLayouts g ms) u)) refl
     where
-      beaten : Failing (λ qs. not (beats (pairOf ms qs) (pairOf ms ps))) (partLayouts g ms) → Beginning g ms ns
+      beaten : Failing (λ qs. not (beats (pairOf ms qs) (pairOf ms ps))) (partLayouts g ms) → Begun g ms ns
       beaten f =
           let less = smaller (pairOf ms (f .element)) (pairOf ms ps) (not-false _ (f .fails)) in
           onward ps (f .element) (lower (f .element) (omega (arith, less .falls))) (f .listed) less rs placed labels h
@@ -153,7 +153,7 @@ module _ (g : ℕ) (ms ns : List Mark) (rise : Rising ms) (big : Beyond emptyRea
   -- so every part layout with a rest behind it leads to an unbeaten one
   pub begun : (ps rs : List Position) → IsPlacing g ms ps → allLabelled rs ≡ true
       → Behind g ms ns ps rs
-      → Beginning g ms ns
+      → Begun g ms ns
   begun ps rs = descend (height ps) ps (omega arith) rs
 
 -- every entry of the first k and of the others is a label, and of two such lists put together

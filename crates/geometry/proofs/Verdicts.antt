@@ -118,10 +118,6 @@ one-passed c =
     by-bool (c .passes) (λ t. afterCheck t (c .otherwise) accepted ≡ accepted → t ≡ true) (λ _ _. refl)
     (λ _ e. absurd (refused-other (c .otherwise) e))
 
--- and the first of a list
-pub first-passed : (c : Check) (cs : List Check) → firstFailure (c ∷ cs) ≡ accepted → (c .passes ≡ true) × (firstFailure cs ≡ accepted)
-first-passed c cs e = let parts = both-passed (c ∷ []) cs e in (one-passed c (parts .0), parts .1)
-
 pub pass-one : (c : Check) → c .passes ≡ true → firstFailure (c ∷ []) ≡ accepted
 unfolding firstFailure
 pass-one c e = rw e refl
@@ -129,6 +125,10 @@ pass-one c e = rw e refl
 pub fail-one : (c : Check) → c .passes ≡ false → firstFailure (c ∷ []) ≡ refused (c .otherwise)
 unfolding firstFailure
 fail-one c e = rw e refl
+
+-- the first of a list of checks
+pub first-passed : (c : Check) (cs : List Check) → firstFailure (c ∷ cs) ≡ accepted → (c .passes ≡ true) × (firstFailure cs ≡ accepted)
+first-passed c cs e = let parts = both-passed (c ∷ []) cs e in (one-passed c (parts .0), parts .1)
 
 -- a test that the check behind it needs too, with that one's refusal, refuses nothing more
 after-part : (t u : Bool) (r : Refusal) (v : Verdict) → (u ≡ true → t ≡ true) → afterCheck t r (afterCheck u r v) ≡ afterCheck u r v

@@ -12,10 +12,6 @@ use Rattle.font.specs.Letters.{inFont}
 abbrev pub mostBytes : ℕ
 mostBytes = 80
 
--- and one of no more than so many is not
-abbrev pub sureBytes : ℕ
-sureBytes = 26
-
 -- a text of so many bytes may have a length from 1 to 240; one of another count has none
 abbrev pub countFits : ℕ → Bool
 countFits n = leb 1 n && leb n mostBytes
