@@ -63,17 +63,34 @@ pub one-longest : (text : List ℕ) (n m : ℕ) → IsLongest text n → IsLonge
 one-longest text n m a b =
     omega (arith, longest-greatest text n m a (b .of-the-text) (b .at-most), longest-greatest text m n b (a .of-the-text) (a .at-most))
 
--- a text that has a length as a label is its own longest beginning
-pub whole-beginning : (text : List ℕ) → lengthInRange (textWidth text) ≡ true → longestBeginning text ≡ length text
-whole-beginning text good =
-    let narrow = one-to mostLength (textWidth text) good .1 in
+-- a text of at most 240 dots, as every one that has a length as a label, is its own longest beginning
+pub narrow-whole : (text : List ℕ) → textWidth text ≤ mostLength → longestBeginning text ≡ length text
+narrow-whole text narrow =
     one-longest text _ (length text) (longest-is text)
     (record { of-the-text = omega arith; at-most = rw (take-length text) narrow; all-or-over = inl refl })
+
+pub whole-beginning : (text : List ℕ) → lengthInRange (textWidth text) ≡ true → longestBeginning text ≡ length text
+whole-beginning text good = narrow-whole text (one-to mostLength (textWidth text) good .1)
+
+-- bytes that have room together are passed at once
+room-behind : (k room : ℕ) (text : List ℕ) → k ≤ length text → textWidth (take k text) ≤ room
+    → bytesWithin room text ≡ k + bytesWithin (room - textWidth (take k text)) (drop k text)
+unfolding bytesWithin textWidth sumList
+room-behind zero room text h fits = let same : room - 0 ≡ room = omega arith in rw same (omega arith)
+room-behind (suc k) room [] h fits = absurd (omega arith)
+room-behind (suc k) room (b ∷ text) h fits =
+    let behind = textWidth (take k text) in
+    let same : room - (widthOf b + behind) ≡ room - widthOf b - behind = omega arith in
+    rw (le-leb (widthOf b) room (omega arith), same) (omega (arith, room-behind k (room - widthOf b) text (omega arith) (omega arith)))
 
 -- the loop: what is left of the text, with so many dots left
 module _ (text : List ℕ) (i room : ℕ) where
   abbrev pub WithRoom : Type 0
   WithRoom = longestBeginning text ≡ i + bytesWithin room (drop i text)
+
+  -- it begins behind bytes that have room
+  pub room-starts : i ≤ length text → textWidth (take i text) ≤ mostLength → room ≡ mostLength - textWidth (take i text) → WithRoom
+  room-starts within fits is = rw is (room-behind i mostLength text within fits)
 
   -- the next byte has room
   pub room-next : WithRoom → i < length text → widthOf (getD text i 0) ≤ room

@@ -33,6 +33,10 @@ unfolding textWidth sumList
 text-between [] = omega arith
 text-between (b ∷ text) = omega (arith, width-between b, text-between text)
 
+-- few bytes, no more than `SURE_BYTES`, are at most 240 dots
+pub few-fit : (text : List ℕ) → length text ≤ 26 → textWidth text ≤ mostLength
+few-fit text few = omega (arith, text-between text)
+
 -- the width of what is left of a text, one byte further
 pub width-next : (text : List ℕ) (i : ℕ) → i < length text → textWidth (drop i text) ≡ widthOf (getD text i 0) + textWidth (drop (i + 1) text)
 unfolding textWidth sumList
@@ -54,6 +58,6 @@ module _ (text : List ℕ) (some : 1 ≤ length text) where
   pub range-of-some : lengthInRange (textWidth text) ≡ leb (textWidth text) mostLength
   range-of-some = let n = text-between text in rw (le-leb 1 (textWidth text) (omega arith)) refl
 
-  -- and surely so if they are few, no more than `SURE_BYTES`
+  -- and surely so if they are few
   pub sure-of-few : length text ≤ 26 → lengthInRange (textWidth text) ≡ true
-  sure-of-few few = let n = text-between text in range-of-some ∙ le-leb (textWidth text) mostLength (omega arith)
+  sure-of-few few = range-of-some ∙ le-leb (textWidth text) mostLength (few-fit text few)

@@ -14,6 +14,9 @@ use geometry::limits::MOST_LENGTH;
 // A text of more bytes is over 240 dots.
 const MOST_BYTES: usize = 80;
 
+// A text of no more bytes is at most 240 dots, whatever its letters are.
+pub const SURE_BYTES: usize = 26;
+
 pub const MOST_WIDTH: u32 = MOST_LENGTH as u32;
 
 // A text is looked at whole, with no jump at a byte that fails, so that the compiler tests several bytes at once.
@@ -50,13 +53,16 @@ pub fn width(widths: &Widths, text: &[u8]) -> u32
     sum
 }
 
-// Goes on until the next byte would pass 240 dots, so no further than to the 81st.
+// Behind the bytes that surely have room, goes on until the next would pass 240 dots, so no further than to the 81st.
 pub fn longest_beginning(widths: &Widths, text: &[u8]) -> usize
     requires { ⌜ (isFont (now widths) ≡ true) × (every inFont (now text) ≡ true) ⌝ }
     ensures { λ r. ⌜ r ≡ longestBeginning (now (text .entry)) ⌝ }
 {
-    let mut room = MOST_WIDTH;
-    let mut i = 0;
+    if text.len() <= SURE_BYTES {
+        return text.len();
+    }
+    let mut room = MOST_WIDTH - width(widths, &text[..SURE_BYTES]);
+    let mut i = SURE_BYTES;
     while i < text.len() {
         let next = width_in(widths, text[i]);
         if room < next {

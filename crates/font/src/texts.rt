@@ -14,6 +14,7 @@ ghost use Rattle.font.specs.inner.Table.{isFont};
 ghost use Rattle.font.specs.inner.Counts.{countFits, Readable, ReadableTexts, Going, textAt};
 use crate::letters::Widths;
 use crate::text::MOST_WIDTH;
+use crate::text::SURE_BYTES;
 use crate::text::all_in_font;
 use crate::text::count_fits;
 use crate::text::width;
@@ -25,9 +26,6 @@ use geometry::refusal::LIST_TOO_SHORT;
 use geometry::refusal::LISTS_UNEQUAL;
 use geometry::refusal::STRAY_BYTE;
 use geometry::refusal::TOO_MANY_MARKS;
-
-// A text of no more bytes is at most 240 dots, whatever its letters are.
-const SURE_BYTES: usize = 26;
 
 // Whether the counts add up to so many bytes. It stops once they pass it, so that the sum of any number of counts never wraps.
 fn counts_add_up(counts: &[u16], bytes: usize) -> bool

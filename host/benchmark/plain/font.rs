@@ -51,11 +51,15 @@ pub fn beginning(text: &[u8], count: &mut usize) -> u8 {
     if !all_in_font(text) {
         return 13;
     }
-    let mut room = 240;
-    for (i, byte) in text.iter().enumerate() {
+    let Some((sure, rest)) = text.split_at_checked(26) else {
+        *count = text.len();
+        return 0;
+    };
+    let mut room = 240 - width(sure) as i32;
+    for (i, byte) in rest.iter().enumerate() {
         room -= WIDTHS[*byte as usize] as i32;
         if room < 0 {
-            *count = i;
+            *count = 26 + i;
             return 0;
         }
     }
