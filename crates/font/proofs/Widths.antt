@@ -33,8 +33,11 @@ unfolding textWidth sumList
 text-between [] = omega arith
 text-between (b ∷ text) = omega (arith, width-between b, text-between text)
 
--- few bytes, no more than `SURE_BYTES`, are at most 240 dots
-pub few-fit : (text : List ℕ) → length text ≤ 26 → textWidth text ≤ mostLength
+-- so many bytes are at most 240 dots, whatever they are
+abbrev pub sureBytes : ℕ
+sureBytes = 26
+
+pub few-fit : (text : List ℕ) → length text ≤ sureBytes → textWidth text ≤ mostLength
 few-fit text few = omega (arith, text-between text)
 
 -- the width of what is left of a text, one byte further
@@ -59,5 +62,5 @@ module _ (text : List ℕ) (some : 1 ≤ length text) where
   range-of-some = let n = text-between text in rw (le-leb 1 (textWidth text) (omega arith)) refl
 
   -- and surely so if they are few
-  pub sure-of-few : length text ≤ 26 → lengthInRange (textWidth text) ≡ true
+  pub sure-of-few : length text ≤ sureBytes → lengthInRange (textWidth text) ≡ true
   sure-of-few few = range-of-some ∙ le-leb (textWidth text) mostLength (few-fit text few)

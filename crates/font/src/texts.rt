@@ -107,8 +107,8 @@ pub fn check_texts(widths: &Widths, texts: &[u8], counts: &[u16], room: usize) -
     if read != 0 {
         return read;
     }
-    let widths = check(all_fit(widths, texts, counts), BAD_MARK);
-    first_refusal(widths, check(counts.len() <= room, LIST_TOO_SHORT))
+    let measured = check(all_fit(widths, texts, counts), BAD_MARK);
+    first_refusal(measured, check(counts.len() <= room, LIST_TOO_SHORT))
 }
 
 // Writes the length of every text.

@@ -12,7 +12,7 @@ use Rattle.geometry.proofs.Every.{every-take}
 use Rattle.font.specs.Letters.{inFont}
 use Rattle.font.specs.Text.{textWidth}
 use Rattle.font.proofs.Beginnings.{WithRoom, narrow-whole, room-starts, room-next, room-none, room-ends}
-use Rattle.font.proofs.Widths.{few-fit}
+use Rattle.font.proofs.Widths.{sureBytes, few-fit}
 use Rattle.font.proofs.text.longest_beginning.Statement.{statement}
 use Rattle.font.proofs.text.longest_beginning.Tie as tie
 
@@ -27,10 +27,10 @@ abbrev start : tie.After-width-arg Inv-loop μ-loop → tie.Start Inv-loop μ-lo
 start a = a .before .before .before
 
 abbrev sure : tie.After-width-arg Inv-loop μ-loop → List ℕ
-sure a = take 26 (start a .args .text .now)
+sure a = take sureBytes (start a .args .text .now)
 
-sure-long : (a : tie.After-width-arg Inv-loop μ-loop) → length (sure a) ≡ 26
-sure-long a = length-take-le 26 (start a .args .text .now) (omega arith)
+sure-long : (a : tie.After-width-arg Inv-loop μ-loop) → length (sure a) ≡ sureBytes
+sure-long a = length-take-le sureBytes (start a .args .text .now) (omega arith)
 
 sure-fit : (a : tie.After-width-arg Inv-loop μ-loop) → textWidth (sure a) ≤ mostLength
 sure-fit a = few-fit (sure a) (omega (arith, sure-long a))
@@ -46,13 +46,13 @@ slice-aggregate-width c = sym (sure-long c)
 width-requires : tie.Need-width-requires Inv-loop μ-loop
 width-requires c κs =
     let pre = start c .pre in
-    (pre .0, record { letters-good = every-take inFont 26 _ (pre .1); few = omega (arith, sure-long c) })
+    (pre .0, record { letters-good = every-take inFont sureBytes _ (pre .1); few = omega (arith, sure-long c) })
 
 sub-room : tie.Need-sub-room Inv-loop μ-loop
 sub-room c = omega (arith, c .width .ensures, sure-fit (c .before))
 
 loop-holds : tie.Need-loop-holds Inv-loop μ-loop
-loop-holds c = (omega arith, room-starts _ 26 _ (omega arith) (sure-fit (c .before)) (omega (arith, c .width .ensures)))
+loop-holds c = (omega arith, room-starts _ sureBytes _ (omega arith) (sure-fit (c .before)) (omega (arith, c .width .ensures)))
 
 width-in-requires : tie.Need-width-in-requires Inv-loop μ-loop
 width-in-requires c κs =

@@ -7,7 +7,7 @@ use borrow.Author.Tests.{le-leb, leb-true}
 use Rattle.geometry.specs.Mark.{mostLength}
 use Rattle.geometry.proofs.Split.{is-leb}
 use Rattle.font.specs.Text.{textWidth}
-use Rattle.font.proofs.Widths.{range-of-some, sure-of-few}
+use Rattle.font.proofs.Widths.{sureBytes, range-of-some, sure-of-few}
 use Rattle.font.proofs.texts.text_fits.Statement.{statement}
 use Rattle.font.proofs.texts.text_fits.Tie as tie
 
@@ -15,7 +15,7 @@ returns : tie.Need-returns
 returns c =
     let start = c .before .before in
     let text = start .args .text .now in
-    le-leb (length text) _ (omega arith) ∙ sym (sure-of-few text (start .pre .2) (omega arith))
+    le-leb (length text) sureBytes (omega arith) ∙ sym (sure-of-few text (start .pre .2) (omega arith))
 
 returns-2 : tie.Need-returns-2
 returns-2 c =
