@@ -21,6 +21,7 @@ pub mod LastLabel
 pub mod Best
 pub mod Whole
 pub mod FirstPlacing
+pub mod Shorter
 pub mod Layouts
 pub mod Beginnings
 pub mod TwoUnbeaten

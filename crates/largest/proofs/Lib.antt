@@ -1,0 +1,6 @@
+-- Laws that belong to no one function, in reading order.
+pub mod MostCells
+pub mod Scaling
+pub mod FullAtWidth
+pub mod InTurn
+pub mod Contract
