@@ -25,7 +25,7 @@ use Rattle.largest.specs.Widths.{noneOver, placingAt, isThere, fitsAt, w
 use Rattle.largest.specs.Largest.{widthAfter, LargestContract}
 use Rattle.largest.specs.inner.Cells.{mostOf}
 use Rattle.largest.specs.inner.Trial.{TrialReady, Tried}
-use Rattle.largest.proofs.FullAtWidth.{not-there, is-there}
+use Rattle.largest.proofs.FullAtWidth.{not-there, is-there, there-within}
 use Rattle.largest.proofs.InTurn.{first-fits, next-width, none-left}
 
 -- at 1 dot no length is over 240
@@ -37,10 +37,6 @@ one-dot (c ∷ cells) good =
     both (leb (c * 1) mostLength) _ (le-leb (c * 1) mostLength (omega arith)) (one-dot cells (rest-good lengthInRange c cells good))
 
 -- what fits is not over 240
-there-within : {A : Type 0} (within : Bool) (o : Option A) → isThere (cond within o none) ≡ true → within ≡ true
-there-within true o e = refl
-there-within false o e = e
-
 fits-within : (g : ℕ) (s : Strip) (width : ℕ) → fitsAt g s width ≡ true → noneOver width (s .lengths) ≡ true
 unfolding placingAt
 fits-within g s width = there-within (noneOver width (s .lengths)) _

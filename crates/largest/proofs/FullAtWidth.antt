@@ -12,7 +12,7 @@ use native.Mathlib.Omega.{arith}
 use lib.Dec.{leb, eqb}
 use lib.IntN.{pos}
 use lib.ListN.{length, length-map}
-use borrow.Author.Tests.{le-leb, eq-eqb}
+use borrow.Author.Tests.{le-leb, eq-eqb, eqb-true}
 use Rattle.geometry.specs.Lists.{every}
 use Rattle.geometry.specs.Mark.{mostLength, lengthInRange}
 use Rattle.geometry.specs.Strip.{Strip, strip, marksOf, mostMarks}
@@ -36,10 +36,12 @@ pub is-there : {A : Type 0} (o : Option A) → isThere o ≡ true → (x : A) ×
 is-there none e = absurd (false≢true e)
 is-there (some x) e = (x, refl)
 
-module _ (width : ℕ) where
-  over : ℕ → Bool
-  over l = leb l mostLength
+-- it is there only where no length is over 240
+pub there-within : {A : Type 0} (within : Bool) (o : Option A) → isThere (cond within o none) ≡ true → within ≡ true
+there-within true o e = refl
+there-within false o e = e
 
+module _ (width : ℕ) where
   -- cells in range make lengths in range where none is over 240
   lengths-good : (cells : List ℕ) → 1 ≤ width → every lengthInRange cells ≡ true → noneOver width cells ≡ true
       → every lengthInRange (lengthsAt width cells) ≡ true
@@ -61,6 +63,11 @@ module _ (width : ℕ) where
       both (leb (c * width) mostLength) _
       (and-snd (leb 1 (c * width)) _ (first-good lengthInRange (c * width) rest good))
       (good-within cells (rest-good lengthInRange (c * width) rest good))
+
+-- full gives 0 only where its checks are passed
+checks-passed : (v : Verdict) (o : Option (List Position)) → numberOf (fullVerdict v o) ≡ 0 → v ≡ accepted
+checks-passed accepted o e = refl
+checks-passed (refused r) o e = absurd (refusal-positive r e)
 
 module _ (s : Strip) (g width : ℕ) (entry : FullLent) (checked : fullChecks s g entry ≡ accepted) (wide : 1 ≤ width) where
   parts : PassAccepted mostMarks s g (length (entry .positions)) workNamed (length (entry .work))
@@ -115,3 +122,17 @@ module _ (s : Strip) (g width : ℕ) (entry : FullLent) (checked : fullChecks s 
   pub passed-over : noneOver width (s .lengths) ≡ false → Tried s g width entry entry false
   unfolding placingAt
   passed-over beyond = record { fits-is = rw beyond refl; positions-are = rw beyond refl; work-is = rw beyond refl }
+
+  -- So a width fits exactly if the full pass gives 0 for the strip at it, whatever lists that pass its checks it is lent. At a length over
+  -- 240 it refuses the strip, and that counts as not fitting.
+  pub fits-as-full-says : (exit : FullLent) (n : ℕ) → FullContract (stripAt width s) g entry exit n → (n ≡ 0) ↔ (fitsAt g s width ≡ true)
+  unfolding placingAt
+  fits-as-full-says exit n full =
+      let says : noneOver width (s .lengths) ≡ true → eqb n 0 ≡ fitsAt g s width =
+      λ within. tried within (lengthsAt width (s .lengths)) refl exit n full .fits-is in (
+        λ zero.
+            let passed = checks-passed (fullChecks (stripAt width s) g entry) _ (sym (full .number-is) ∙ zero) in
+            let good = pass-accepted mostMarks (stripAt width s) g _ workNamed _ passed .entered .lengths-good in
+            sym (says (good-within width (s .lengths) good)) ∙ eq-eqb n 0 zero,
+        λ fits. eqb-true n 0 (says (there-within (noneOver width (s .lengths)) _ fits) ∙ fits),
+      )

@@ -4,3 +4,7 @@ pub mod Scaling
 pub mod FullAtWidth
 pub mod InTurn
 pub mod Contract
+pub mod SmallerWidths
+pub mod GreatestFirst
+pub mod InWords
+pub mod WidthExample
