@@ -29,6 +29,7 @@ pub struct Lists {
     pub work_u32: Vec<u32>,
     pub sum: u32,
     pub count: usize,
+    pub width: u8,
 }
 
 impl Lists {
@@ -44,6 +45,7 @@ impl Lists {
             work_u32: vec![0; 15_000],
             sum: 0,
             count: 0,
+            width: 0,
         }
     }
 }

@@ -13,10 +13,11 @@ mod plain;
 mod timing;
 
 use lists::{Input, Lists};
+use plain::largest::Order;
 use random::Random;
 use std::ops::Range;
 use strips::{fitting_strip, Shape, Strip};
-use timing::{growth, row, Row, Sides};
+use timing::{row, times, Row, Sides};
 
 const SHORT: Shape = Shape { step: 14, length: 20 };
 const LONG: Shape = Shape { step: 90, length: 240 };
@@ -64,6 +65,35 @@ fn all_but_four_left_out(strips: usize) -> Vec<Strip> {
         assert_eq!(lists.count, 56);
     }
     strips
+}
+
+// Strips of 4,000 marks with lengths in cells that fit at no width: the first five marks are a dot apart with 8 cells each, which do not
+// fit at 1 dot and are not over 240 dots at 30. The others, 15 dots apart with a cell each, fit at every width, so that each call of
+// the full pass goes through all of them.
+fn no_width(strips: usize) -> Vec<Strip> {
+    let crowd = |first: usize| Strip {
+        places: (0..4_000).map(|k| (first as i32 - 30_000 + k.min(4) + 15 * (k - 4).max(0)) as i16).collect(),
+        lengths: (0..4_000).map(|k| if k < 5 { 8 } else { 1 }).collect(),
+        weights: vec![1; 4_000],
+    };
+    (0..strips).map(crowd).collect()
+}
+
+// Strips with lengths in cells, 1 to 3, that fit at some width.
+fn in_cells(strips: &[Strip]) -> Vec<Strip> {
+    let count = |length: &u8| (length / 6).max(1);
+    strips.iter().map(|strip| Strip { lengths: strip.lengths.iter().map(count).collect(), ..strip.clone() }).collect()
+}
+
+// The inputs with the lengths that their cells have at the width found, or at 1 dot.
+fn at_width_found(inputs: &[Input]) -> Vec<Input> {
+    let at_width = |input: &Input| {
+        let mut lists = Lists::of(input);
+        exported::largest(input, &mut lists);
+        let lengths = input.lengths.iter().map(|cells| cells * lists.width.max(1)).collect();
+        Input { places: input.places.clone(), lengths, weights: input.weights.clone(), ..Input::default() }
+    };
+    inputs.iter().map(at_width).collect()
 }
 
 // Strips with their jobs.
@@ -127,6 +157,16 @@ macro_rules! runs {
     };
 }
 
+// The search for the largest letters of one archive; the lengths of an input are its counts of cells.
+macro_rules! run_of_cells {
+    ($calls:path) => {
+        pub fn largest(i: &Input, l: &mut Lists) {
+            let (positions, work, width) = (&mut l.bytes, &mut l.work_i16, &mut l.width);
+            l.number = calls::largest(&i.places, &i.lengths, &i.weights, crate::gap(), positions, work, width);
+        }
+    };
+}
+
 // Makes a call on each text with its number, counted from 0; the greatest of what they give.
 fn each_text(input: &Input, mut call: impl FnMut(usize, &[u8]) -> u8) -> u8 {
     let mut left = &input.bytes[..];
@@ -168,6 +208,7 @@ macro_rules! runs_of_texts {
 
 mod exported {
     runs!(crate::calls, crate::gap());
+    run_of_cells!(crate::calls);
     runs_of_texts!(crate::calls);
 }
 
@@ -177,6 +218,8 @@ mod earlier {
     runs!(::before, crate::gap());
     #[cfg(without_gap)]
     runs!(::before);
+    #[cfg(not(without_cells))]
+    run_of_cells!(::before);
     #[cfg(not(without_texts))]
     runs_of_texts!(::before);
 }
@@ -192,6 +235,16 @@ fn plain_slide(i: &Input, l: &mut Lists) {
 fn plain_best(i: &Input, l: &mut Lists) {
     let answer = plain::best::best(&i.places, &i.lengths, &i.weights, gap(), &mut l.bytes, &mut l.words, &mut l.work_u32);
     (l.number, l.sum, l.count) = (answer.number, answer.sum, answer.count);
+}
+
+fn plain_largest(i: &Input, l: &mut Lists) {
+    let (positions, work, width) = (&mut l.bytes, &mut l.work_i16, &mut l.width);
+    l.number = plain::largest::largest(Order::FromTheTop, &i.places, &i.lengths, &i.weights, gap(), positions, work, width);
+}
+
+fn plain_largest_by_halves(i: &Input, l: &mut Lists) {
+    let (positions, work, width) = (&mut l.bytes, &mut l.work_i16, &mut l.width);
+    l.number = plain::largest::largest(Order::ByHalves, &i.places, &i.lengths, &i.weights, gap(), positions, work, width);
 }
 
 fn plain_read(i: &Input, l: &mut Lists) {
@@ -231,6 +284,16 @@ macro_rules! sides {
         }
     };
 }
+
+// The same for the search for the largest letters.
+const LARGEST: Sides = Sides {
+    exported: exported::largest,
+    plain: plain_largest,
+    #[cfg(all(compared, not(without_cells)))]
+    before: Some(earlier::largest),
+    #[cfg(not(all(compared, not(without_cells))))]
+    before: None,
+};
 
 // The same for a call on texts.
 macro_rules! sides_of_texts {
@@ -276,12 +339,15 @@ fn main() {
     let long = with_jobs(&fitting(MANY, 60, LONG));
     let (few, few_long) = (&short[..FEW], &long[..FEW]);
     let crowd = &with_jobs(&all_but_four_left_out(FEW));
+    let (letters, crammed) = (with_jobs(&in_cells(&strips)), with_jobs(&no_width(MANY)));
     let (words, lines) = (texts(FEW, 1..21), texts(FEW, 27..61));
     let rows = [
         row("full, 2,000 marks", &half, 0, FULL),
         row("full, 4,000 marks", &whole, 0, FULL),
         row("full, 4,000 marks, no placing of the first 30", &front, 11, FULL),
         row("full, 4,000 marks, no placing of the last 30", &end, 11, FULL),
+        row("largest, 4,000 marks, labels of 1 to 3 cells", &letters, 0, LARGEST),
+        row("largest, 4,000 marks, no placing at any width", &crammed, 11, LARGEST),
         row("slide, 60 marks, lengths to 20", &short, 0, SLIDE),
         row("slide, 60 marks, lengths to 240", &long, 0, SLIDE),
         row("best, 60 marks, lengths to 20", few, 0, BEST),
@@ -295,5 +361,11 @@ fn main() {
         row("beginning, the 4,000 of 27 to 60 letters one by one", &lines, 0, BEGINNING),
     ];
     print_table(&rows);
-    println!("\nfull from 2,000 to 4,000 marks: {:.2} times the time", growth(exported::full, &half, &whole));
+    println!("\nfull from 2,000 to 4,000 marks: {:.2} times the time", times(exported::full, &half, exported::full, &whole));
+    let multiple = |inputs: &[Input]| times(exported::full, &at_width_found(inputs), exported::largest, inputs);
+    let (fits, none) = (multiple(&letters), multiple(&crammed));
+    println!("largest: {fits:.1} times one call of full where the strip fits at some width, {none:.1} times where it fits at none");
+    let halved = |inputs: &[Input]| times(plain_largest, inputs, plain_largest_by_halves, inputs);
+    let (fits, none) = (halved(&letters), halved(&crammed));
+    println!("plain Rust by halving the widths: {fits:.2} and {none:.2} times the time of plain Rust from the top");
 }

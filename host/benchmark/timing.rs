@@ -88,9 +88,9 @@ pub fn row(name: &'static str, inputs: &[Input], number: u8, runs: Sides) -> Row
     Row { name, exported: times[0], plain: times[1], before: times.get(2).copied() }
 }
 
-// How many times as long a call takes on the second set of inputs as on the first.
-pub fn growth(run: Run, inputs: &[Input], more: &[Input]) -> f64 {
-    let mut sides = [Side::new(run, inputs), Side::new(run, more)];
+// How many times as long a second call on its inputs takes as a first one on its own.
+pub fn times(first: Run, first_inputs: &[Input], second: Run, second_inputs: &[Input]) -> f64 {
+    let mut sides = [Side::new(first, first_inputs), Side::new(second, second_inputs)];
     in_turn(&mut sides);
     sides[1].median() / sides[0].median()
 }

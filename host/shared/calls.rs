@@ -1,4 +1,4 @@
-// The eight calls of include/strip.h, on slices: a slice is a pointer and its count of elements, never null and never overlapping
+// The nine calls of include/strip.h, on slices: a slice is a pointer and its count of elements, never null and never overlapping
 // another that is lent to the same call, so every use is within the header's rules. Built with `--cfg before` from an earlier
 // commit they are those of its archive, whose names host/bench lengthens so that both can be linked.
 
@@ -52,6 +52,21 @@ extern "C" {
         work_len: usize,
         sum: *mut u32,
         count: *mut usize,
+    ) -> u8;
+    #[cfg_attr(before, link_name = "before_strip_largest")]
+    fn strip_largest(
+        places: *const i16,
+        places_len: usize,
+        cells: *const u8,
+        cells_len: usize,
+        weights: *const u16,
+        weights_len: usize,
+        gap: u8,
+        positions: *mut u8,
+        positions_len: usize,
+        work: *mut i16,
+        work_len: usize,
+        width: *mut u8,
     ) -> u8;
     #[cfg_attr(before, link_name = "before_strip_read")]
     fn strip_read(
@@ -166,6 +181,33 @@ pub fn best(
             work.len(),
             sum,
             count,
+        )
+    }
+}
+
+pub fn largest(
+    places: &[i16],
+    cells: &[u8],
+    weights: &[u16],
+    gap: u8,
+    positions: &mut [u8],
+    work: &mut [i16],
+    width: &mut u8,
+) -> u8 {
+    unsafe {
+        strip_largest(
+            places.as_ptr(),
+            places.len(),
+            cells.as_ptr(),
+            cells.len(),
+            weights.as_ptr(),
+            weights.len(),
+            gap,
+            positions.as_mut_ptr(),
+            positions.len(),
+            work.as_mut_ptr(),
+            work.len(),
+            width,
         )
     }
 }

@@ -23,6 +23,7 @@ use Rattle.geometry.proofs.Accepted.{pass-accepted, first-good, rest-good}
 use Rattle.full.specs.Full.{workNamed, FullLent, fullChecks, fullVerdict, positionsAfter}
 use Rattle.largest.specs.Widths.{noneOver, placingAt, isThere, fitsAt, widest, widthsFrom, largestWidth, placingOf}
 use Rattle.largest.specs.Largest.{widthAfter, LargestContract}
+use Rattle.largest.specs.declared.answer.Largest.{Largest}
 use Rattle.largest.specs.inner.Cells.{mostOf}
 use Rattle.largest.specs.inner.Trial.{TrialReady, Tried}
 use Rattle.largest.proofs.FullAtWidth.{not-there, is-there, there-within}
@@ -49,11 +50,11 @@ module _ (s : Strip) (g : ℕ) (entry : FullLent) where
   by-refusal accepted o w n e z = absurd (z e)
   by-refusal (refused r) o w n e z = (e, refl, refl, refl)
 
-  pub refused-call : (n : ℕ) → n ≡ numberOf (fullChecks s g entry) → (n ≡ 0 → ⊥)
-      → LargestContract s g entry entry (record { number = n; width = 0 })
-  refused-call n e z =
-      let r = by-refusal (fullChecks s g entry) (placingOf g s (largestWidth g s)) (largestWidth g s) n e z in
-      record { number-is = r .0; width-is = r .1; positions-are = r .2; work-is = r .3 }
+  pub refused-call : (r : Largest) → r .number ≡ numberOf (fullChecks s g entry) → (r .number ≡ 0 → ⊥) → r .width ≡ 0
+      → LargestContract s g entry entry r
+  refused-call r e z width-0 =
+      let met = by-refusal (fullChecks s g entry) (placingOf g s (largestWidth g s)) (largestWidth g s) (r .number) e z in
+      record { number-is = met .0; width-is = width-0 ∙ met .1; positions-are = met .2; work-is = met .3 }
 
   -- the widths so far did not fit: the first that does is among those left
   pub record Trying (lent : FullLent) (width : ℕ) : Type 0 where
@@ -63,8 +64,15 @@ module _ (s : Strip) (g : ℕ) (entry : FullLent) where
     pub rest-kept : drop workNamed (lent .work) ≡ drop workNamed (entry .work)
     pub work-long : length (lent .work) ≡ length (entry .work)
 
-  pub trying-starts : Trying entry widest
-  trying-starts = record { least = omega arith; among-left = refl; positions-kept = refl; rest-kept = refl; work-long = refl }
+  pub trying-starts : (width : ℕ) → width ≡ widest → Trying entry width
+  trying-starts width is =
+      record {
+        least = omega arith;
+        among-left = ap (λ w. firstOf (fitsAt g s) (widthsFrom w)) (sym is);
+        positions-kept = refl;
+        rest-kept = refl;
+        work-long = refl;
+      }
 
   module _ (checked : fullChecks s g entry ≡ accepted) (lent : FullLent) (width : ℕ) (trying : Trying lent width) where
     -- so the next can be tried
@@ -108,28 +116,28 @@ module _ (s : Strip) (g : ℕ) (entry : FullLent) where
             }
 
         -- none fits
-        pub none-fits : width ≡ 1 → LargestContract s g entry exit (record { number = refusalNumber noPlacing; width = 0 })
-        none-fits last =
+        pub none-fits : width ≡ 1 → (r : Largest) → r .number ≡ refusalNumber noPlacing → r .width ≡ 0 → LargestContract s g entry exit r
+        none-fits last r number-11 width-0 =
             let none-found : largestWidth g s ≡ none =
             fewer ∙ rw last (none-left (fitsAt g s)) in
             let good = pass-accepted mostMarks s g _ workNamed _ checked .entered .lengths-good in
             record {
-              number-is = rw (checked, none-found) refl;
-              width-is = rw (checked, none-found) refl;
+              number-is = rw (checked, none-found) number-11;
+              width-is = rw (checked, none-found) width-0;
               positions-are = rw (checked, none-found) positions-same;
               work-is = rw checked (work-cleared (rw last (one-dot (s .lengths) good)));
             }
 
       -- the first that fits
-      pub one-fits : fits ≡ true → LargestContract s g entry exit (record { number = 0; width = width })
-      one-fits does =
+      pub one-fits : fits ≡ true → (r : Largest) → r .number ≡ 0 → r .width ≡ width → LargestContract s g entry exit r
+      one-fits does r number-0 width-same =
           let there = sym (tried .fits-is) ∙ does in
           let placing = is-there (placingAt g s width) there in
           let found : largestWidth g s ≡ some width =
           trying .among-left ∙ first-fits (fitsAt g s) width (trying .least) there in
           record {
-            number-is = rw (checked, found, placing .1) refl;
-            width-is = rw (checked, found) refl;
+            number-is = rw (checked, found, placing .1) number-0;
+            width-is = rw (checked, found) width-same;
             positions-are = rw (checked, found) (tried .positions-are ∙ rw (trying .positions-kept) refl);
             work-is = rw checked (work-cleared (fits-within g s width there));
           }

@@ -25,6 +25,7 @@ use Rattle.geometry.proofs.Accepted.{PassAccepted, pass-accepted, accepted-entr
 use Rattle.geometry.proofs.Verdicts.{zero-accepted, refusal-positive}
 use Rattle.full.specs.Full.{workNamed, FullLent, fullChecks, fullVerdict, FullContract}
 use Rattle.largest.specs.Widths.{lengthsAt, stripAt, noneOver, placingAt, isThere, fitsAt}
+use Rattle.largest.specs.inner.Cells.{ScaleReady}
 use Rattle.largest.specs.inner.Trial.{Tried}
 
 -- whether a placing is there
@@ -73,9 +74,12 @@ module _ (s : Strip) (g width : ℕ) (entry : FullLent) (checked : fullChecks s 
   parts : PassAccepted mostMarks s g (length (entry .positions)) workNamed (length (entry .work))
   parts = pass-accepted mostMarks s g _ workNamed _ checked
 
-  -- no more cells than a strip has marks
-  pub few-cells : length (s .lengths) ≤ mostMarks
-  few-cells = let good = parts .entered in omega (arith, good .few, good .same-lengths)
+  -- a list for every strip has room for its lengths
+  pub ready-to-scale : noneOver width (s .lengths) ≡ true → {w : ℕ} {list : List ℕ} → w ≡ width → length list ≡ mostMarks
+      → ScaleReady (s .lengths) w list
+  ready-to-scale within is long =
+      let good = parts .entered in
+      record { none-over = rw is within; roomy = omega (arith, good .few, good .same-lengths) }
 
   -- the strip at that width passes the checks too
   checked-at : noneOver width (s .lengths) ≡ true → fullChecks (stripAt width s) g entry ≡ accepted

@@ -16,7 +16,7 @@ use Rattle.geometry.specs.Lists.{every}
 use Rattle.geometry.specs.Mark.{mostLength}
 use Rattle.geometry.proofs.Split.{by-leb, same-test, lt-or-ge}
 use Rattle.largest.specs.Widths.{noneOver}
-use Rattle.largest.specs.inner.Cells.{mostOf}
+use Rattle.largest.specs.inner.Cells.{mostOf, WithinMost}
 
 -- a walk through the cells: the greatest so far and the greatest of what is left
 module _ (cells : List ℕ) (i most : ℕ) (so-far : max most (mostOf (drop i cells)) ≡ mostOf cells) where
@@ -58,5 +58,5 @@ most-decides (c ∷ cells) width =
     ∙ ap (λ t. leb (c * width) mostLength && t) (most-decides cells width)
 
 -- so does a number that is it
-pub within-decides : (cells : List ℕ) (most width : ℕ) → most ≡ mostOf cells → leb (most * width) mostLength ≡ noneOver width cells
-within-decides cells most width is = rw is (most-decides cells width)
+pub within-decides : (most dots : ℕ) {within : Bool} → within ≡ leb (most * dots) mostLength → WithinMost most dots within
+within-decides most dots says cells width most-is dots-are = says ∙ rw (most-is, dots-are) (most-decides cells width)

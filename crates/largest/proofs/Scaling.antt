@@ -10,10 +10,10 @@ use lib.ListN.{length, getD, take, drop, set, length-set, length-map, List·getD
 use lib.Seq.{drop-cons, drop-length, append-snoc}
 use borrow.Author.Tests.{leb-true}
 use Rattle.geometry.specs.Mark.{mostLength}
-use Rattle.geometry.specs.Pass.{written}
 use Rattle.geometry.proofs.Accepted.{every-at}
-use Rattle.geometry.proofs.Lent.{take-more, drop-more, written-whole}
+use Rattle.geometry.proofs.Lent.{take-more, drop-more, written-whole, used-is, used-within}
 use Rattle.largest.specs.Widths.{lengthsAt, noneOver}
+use Rattle.largest.specs.inner.Cells.{Scaled}
 
 -- each length is within 240 dots
 pub one-within : (width : ℕ) (cells : List ℕ) (i : ℕ) → noneOver width cells ≡ true → i < length cells → getD cells i 0 * width ≤ mostLength
@@ -53,8 +53,19 @@ module _ (width : ℕ) (cells entry : List ℕ) where
         }
 
     -- none is left
-    pub scaling-ends : i ≡ length cells → list ≡ written (lengthsAt width cells) entry
+    pub scaling-ends : i ≡ length cells → Scaled cells width entry list
     scaling-ends e =
         let none : lengthsAt width (drop i cells) ≡ [] = rw (e, drop-length cells) refl in
         let all = sym (append-nil (take i list)) ∙ ap (λ (l : List ℕ). take i list ++ l) (sym none) ∙ scaling .so-far in
-        written-whole i list (lengthsAt width cells) entry all (scaling .rest-kept) (length-map cells (λ c. c * width) ∙ sym e)
+        record { lengths-are = written-whole i list _ entry all (scaling .rest-kept) (length-map cells (λ c. c * width) ∙ sym e) }
+
+-- of a list with the lengths at a width, as many elements as there are cells are these, and it is not shorter
+module _ (cells : List ℕ) {width : ℕ} {entry list : List ℕ} (scaled : Scaled cells width entry list) where
+  one-for-each : length cells ≡ length (lengthsAt width cells)
+  one-for-each = sym (length-map cells (λ c. c * width))
+
+  pub lengths-used : take (length cells) list ≡ lengthsAt width cells
+  lengths-used = used-is (lengthsAt width cells) entry (scaled .lengths-are) one-for-each
+
+  pub lengths-within : length cells ≤ length list
+  lengths-within = used-within (lengthsAt width cells) entry (scaled .lengths-are) one-for-each

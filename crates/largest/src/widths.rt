@@ -39,15 +39,8 @@ fn fits_at(
     }
     let mut lengths = [0; MOST_MARKS];
     scale(cells, width, &mut lengths);
-    full(
-        places,
-        &lengths[..cells.len()],
-        weights,
-        gap,
-        positions,
-        work,
-    )
-        == 0
+    let scaled = &lengths[..cells.len()];
+    full(places, scaled, weights, gap, positions, work) == 0
 }
 
 // The first width that fits, from the widest down. Where none does the last one tried is 1 dot, at which no length is over 240: so the

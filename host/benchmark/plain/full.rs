@@ -2,7 +2,7 @@
 // can still be placed, after a label to the left and after one to the right; then a walk from the left. Above and below are
 // alike, so these two numbers a mark are enough. The loops choose by values and not by branches, which random strips would
 // mispredict.
-const WORK: usize = 20_000;
+pub const WORK: usize = 20_000;
 const NONE: i32 = -32_768;
 const EMPTY: i32 = -32_767;
 const NO_BOUND: i32 = 32_767;
@@ -38,7 +38,7 @@ impl Next {
 }
 
 // Whether there is a placing: there is none as soon as a mark leaves the other side nothing, and then the rest is not filled.
-fn fill(places: &[i16], lengths: &[u8], gap: i32, work: &mut [i16]) -> bool {
+pub fn fill(places: &[i16], lengths: &[u8], gap: i32, work: &mut [i16]) -> bool {
     let mut next = Next { left: NO_BOUND, place: NO_BOUND, after_left: NO_BOUND, after_right: NO_BOUND };
     for ((&place, &length), row) in places.iter().zip(lengths).zip(work.chunks_exact_mut(2)).rev() {
         let (place, length) = (place as i32, length as i32);
@@ -54,7 +54,7 @@ fn fill(places: &[i16], lengths: &[u8], gap: i32, work: &mut [i16]) -> bool {
 }
 
 // Two differences are both at least 0 exactly if their bitwise or is.
-fn walk(places: &[i16], lengths: &[u8], gap: i32, work: &[i16], positions: &mut [u8]) {
+pub fn walk(places: &[i16], lengths: &[u8], gap: i32, work: &[i16], positions: &mut [u8]) {
     let (mut above, mut below) = (EMPTY, EMPTY);
     for (((&place, &length), row), position) in places.iter().zip(lengths).zip(work.chunks_exact(2)).zip(positions) {
         let (place, length) = (place as i32, length as i32);

@@ -20,7 +20,7 @@ abbrev entry : tie.After-check-pass → FullLent
 entry k = fullLent (came k .args .positions .now) (came k .args .work .now)
 
 returns : tie.Need-returns
-returns c = let k = c .before in refused-call (whole k) _ (entry k) _ (k .check-pass .ensures) (λ zero. omega arith)
+returns c = let k = c .before in refused-call (whole k) _ (entry k) _ (k .check-pass .ensures) (λ zero. omega arith) (omega arith)
 
 first-fitting-requires : tie.Need-first-fitting-requires
 first-fitting-requires c κs =

@@ -17,12 +17,12 @@ abbrev turn : tie.After-shared-slice-known Inv-loop μ-loop → tie.At-loop Inv-
 turn c = c .before .before
 
 loop-holds : tie.Need-loop-holds Inv-loop μ-loop
-loop-holds c = scaling-starts _ _ _ (c .pre .1)
+loop-holds c = scaling-starts _ _ _ (c .pre .roomy)
 
 mul-lengths : tie.Need-mul-lengths Inv-loop μ-loop
 mul-lengths c =
     let start = turn c .before in
-    omega (arith, one-within (start .args .width) (start .args .cells .now) _ (start .pre .0) (c .before .loop-test .taken))
+    omega (arith, one-within (start .args .width) (start .args .cells .now) _ (start .pre .none-over) (c .before .loop-test .taken))
 
 slice-write-lengths : tie.Need-slice-write-lengths Inv-loop μ-loop
 slice-write-lengths c = let scaling = turn c .loop .inv in omega (arith, scaling .long, scaling .roomy)

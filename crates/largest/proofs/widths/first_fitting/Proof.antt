@@ -61,7 +61,7 @@ abbrev failing : tie.Else1 Inv-loop μ-loop → Known
 failing c = let lists = c .before .before in lists .before .before
 
 loop-holds : tie.Need-loop-holds Inv-loop μ-loop
-loop-holds c = let a = start c in trying-starts (whole a) _ (entry a)
+loop-holds c = let a = start c in trying-starts (whole a) _ (entry a) _ (omega arith)
 
 fits-at-requires : tie.Need-fits-at-requires Inv-loop μ-loop
 fits-at-requires c κs =
@@ -88,7 +88,7 @@ returns c =
     let f = fitting c in
     let head = turn f in
     let a = came head in
-    one-fits (whole a) _ (entry a) (a .pre) (lent head) _ (head .loop .inv) (exit f) _ (f .fits-at .ensures) (c .if1 .taken)
+    one-fits (whole a) _ (entry a) (a .pre) (lent head) _ (head .loop .inv) (exit f) _ (f .fits-at .ensures) (c .if1 .taken) _ (omega arith) (omega arith)
 
 same-length-3 : tie.Need-same-length-3 Inv-loop μ-loop
 same-length-3 c = positions-long (failing (c .before))
@@ -101,7 +101,8 @@ returns-2 c =
     let f = failing (c .before) in
     let head = turn f in
     let a = came head in
-    none-fits (whole a) _ (entry a) (a .pre) (lent head) _ (head .loop .inv) (exit f) _ (f .fits-at .ensures) (c .before .if1 .left) (omega arith)
+    none-fits (whole a) _ (entry a) (a .pre) (lent head) _ (head .loop .inv) (exit f) _ (f .fits-at .ensures) (c .before .if1 .left) (omega arith) _
+    (omega arith) (omega arith)
 
 pub first-fitting-spec : {M : Type 1} → statement M
 first-fitting-spec =

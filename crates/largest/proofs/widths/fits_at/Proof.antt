@@ -1,5 +1,5 @@
 -- `largest::widths::fits_at` meets its contract: by the full pass's contract of the strip at the width, or with nothing called.
-use mathlib.Core.Path.{_≡_, sym, _∙_, ap, subst}
+use mathlib.Core.Path.{_≡_, refl, sym, _∙_, ap}
 use mathlib.Core.Bool.{true, false}
 use mathlib.Core.List.{List}
 use Prim.Native.Nat.{ℕ, _≤_}
@@ -12,8 +12,8 @@ use Rattle.geometry.specs.Strip.{Strip, strip}
 use Rattle.geometry.proofs.Lent.{used-is, used-within}
 use Rattle.full.specs.Full.{FullLent, fullLent, FullContract}
 use Rattle.largest.specs.Widths.{lengthsAt, noneOver}
-use Rattle.largest.proofs.MostCells.{within-decides}
-use Rattle.largest.proofs.FullAtWidth.{few-cells, tried, passed-over}
+use Rattle.largest.proofs.Scaling.{lengths-used, lengths-within}
+use Rattle.largest.proofs.FullAtWidth.{ready-to-scale, tried, passed-over}
 use Rattle.largest.proofs.widths.fits_at.Statement.{statement}
 use Rattle.largest.proofs.widths.fits_at.Tie as tie
 
@@ -29,7 +29,7 @@ abbrev start : tie.After-within → tie.Start
 start w = let known = w .before .before in known .before .before
 
 within-says : (w : tie.After-within) → w .within .result ≡ noneOver (start w .args .width) (start w .args .cells .now)
-within-says w = let a = start w in w .within .ensures ∙ within-decides (a .args .cells .now) _ _ (a .pre .most-is)
+within-says w = let a = start w in w .within .ensures _ _ (a .pre .most-is) (omega arith)
 
 none-over : (e : tie.Else1) → noneOver (start (e .before) .args .width) (start (e .before) .args .cells .now) ≡ true
 none-over e = sym (within-says (e .before)) ∙ not-false _ (e .if1 .left)
@@ -41,11 +41,12 @@ came k = let passed = k .before .before in start (passed .before)
 abbrev list : tie.After-scale → List ℕ
 list k = k .scale .last .1 .1 .0
 
-one-for-each : (k : tie.After-scale) → length (came k .args .cells .now) ≡ length (lengthsAt (came k .args .width) (came k .args .cells .now))
-one-for-each k = sym (length-map (came k .args .cells .now) _)
-
 roomy : (k : tie.After-scale) → length (came k .args .cells .now) ≤ length (list k)
-roomy k = used-within (lengthsAt (came k .args .width) (came k .args .cells .now)) _ (k .scale .ensures) (one-for-each k)
+roomy k = lengths-within (came k .args .cells .now) (k .scale .ensures)
+
+-- with them the full pass is asked about the width
+as-scaled : (k : tie.After-scale) → take (length (came k .args .cells .now)) (list k) ≡ lengthsAt (came k .args .width) (came k .args .cells .now)
+as-scaled k = lengths-used (came k .args .cells .now) (k .scale .ensures) ∙ ap (λ w. lengthsAt w (came k .args .cells .now)) (omega arith)
 
 -- the full pass has been called with them
 abbrev scaled : tie.After-full → tie.After-scale
@@ -61,21 +62,20 @@ scale-requires : tie.Need-scale-requires
 scale-requires c κs =
     let passed = c .before in
     let a = start (passed .before) in
-    (none-over passed, few-cells (whole a) _ _ (entry a) (a .pre .checked) (a .pre .least))
+    ready-to-scale (whole a) _ _ (entry a) (a .pre .checked) (a .pre .least) (none-over passed) (omega arith) refl
 
 array-share-prefix-lengths : tie.Need-array-share-prefix-lengths
 array-share-prefix-lengths c = roomy (c .before)
 
-slice-aggregate-full : tie.Need-slice-aggregate-full
-slice-aggregate-full c = let k = c .before .before in sym (length-take-le _ (list k) (roomy k))
+slice-aggregate-scaled : tie.Need-slice-aggregate-scaled
+slice-aggregate-scaled c = let k = c .before .before in sym (length-take-le _ (list k) (roomy k))
 
 returns-2 : tie.Need-returns-2
 returns-2 c =
     let f = c .before .before .before in
     let k = scaled f in
     let a = came k in
-    tried (whole a) _ _ (entry a) (a .pre .checked) (a .pre .least) (none-over (k .before .before)) _
-    (used-is (lengthsAt (a .args .width) (a .args .cells .now)) _ (k .scale .ensures) (one-for-each k)) _ _ (f .full .ensures)
+    tried (whole a) _ _ (entry a) (a .pre .checked) (a .pre .least) (none-over (k .before .before)) _ (as-scaled k) _ _ (f .full .ensures)
 
 pub fits-at-spec : {M : Type 1} → statement M
 fits-at-spec =
@@ -86,7 +86,7 @@ fits-at-spec =
     (λ c. search needs)
     scale-requires
     array-share-prefix-lengths
-    slice-aggregate-full
+    slice-aggregate-scaled
     (λ c κs. search needs)
     (λ c. search needs)
     (λ c. search needs)
