@@ -7,6 +7,8 @@
 // - BEST: 0 for no label, or the position 1 to 4;
 // - SLIDE: the side, 0 above and 1 below, plus twice the number of dots by which the label lies right of its leftmost edge;
 // - HALVES: the same in half dots.
+//
+// The largest letters have no choices of their own: at each width they are those of FULL.
 ghost use Prim.Native.Nat.{_≤_, _<_};
 
 pub const FULL: u32 = 0;
@@ -16,6 +18,8 @@ pub const BEST: u32 = 1;
 pub const SLIDE: u32 = 2;
 
 pub const HALVES: u32 = 3;
+
+pub const LARGEST: u32 = 4;
 
 // How many values a digit has; sliding has labels of at most 7 dots.
 fn values(model: u32) -> u32

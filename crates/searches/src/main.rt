@@ -6,6 +6,7 @@ mod leftmost;
 mod random;
 mod random_best;
 mod random_full;
+mod random_largest;
 mod random_slide;
 mod search;
 mod slid;
@@ -51,8 +52,26 @@ fn random_slides() {
     random::random(b"slide random, long labels", choices::SLIDE, 4, long);
 }
 
+// Labels of 1 to 6 cells, with which each width from 1 to 30 is found, and of 1 to 12, of which many have room at widths at which they
+// would be over 240 dots.
+fn random_letters() {
+    let short = Draw {
+        steps: 20,
+        shortest: 1,
+        spread: 6,
+    };
+    random::random(b"largest random", choices::LARGEST, 6, short);
+    let long = Draw {
+        steps: 12,
+        shortest: 1,
+        spread: 12,
+    };
+    random::random(b"largest random, long labels", choices::LARGEST, 7, long);
+}
+
 fn main() {
     random_corners();
+    random_letters();
     random_crowds();
     random_slides();
 }

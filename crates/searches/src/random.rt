@@ -4,6 +4,7 @@ ghost use lib.ListN.{length};
 use crate::choices;
 use crate::random_best;
 use crate::random_full;
+use crate::random_largest;
 use crate::random_slide;
 use crate::strip;
 use crate::strip::Draw;
@@ -24,6 +25,9 @@ fn shown_by(
     }
     if model == choices::BEST {
         return random_best::compared(dots, places, lengths, weights, gap);
+    }
+    if model == choices::LARGEST {
+        return random_largest::compared(dots, places, lengths, weights, gap);
     }
     random_slide::compared(dots, places, lengths, weights, gap)
 }

@@ -28,7 +28,7 @@ fn wanted(n: usize, choice: u32) -> [u8; 8] {
 }
 
 // Whether the pass gives what the search found; where that is nothing, it writes no position.
-fn agrees(n: usize, found: u32, number: u8, positions: &[u8; 8]) -> bool {
+pub fn agrees(n: usize, found: u32, number: u8, positions: &[u8; 8]) -> bool {
     if found == search::UNFINISHED {
         return false;
     }
