@@ -5,7 +5,8 @@ use crate::near::{any_strip, some_strip};
 use crate::random::Random;
 use crate::strips::{fitting_strip, Shape, Strip};
 use crate::texts::{many_counts, some_filling, some_text, Filling};
-use crate::{best, full, job, slide, texts};
+use crate::{best, full, job, largest, slide, texts};
+use std::cell::RefCell;
 use std::fmt::Debug;
 
 // Runs one group: `make` gives a case, `compare` the number that both sides agree on or what differs.
@@ -106,6 +107,32 @@ fn many_left_out_call(random: &mut Random, limits: &Limits) -> Call {
     some_call(random, strip, gap, limits, false)
 }
 
+// Up to so many marks with lengths in cells, some so far apart that wide letters fit, some crowded; half of the calls damaged.
+fn cells_call(random: &mut Random, most: usize, limits: &Limits) -> Call {
+    let marks = random.below(most + 1);
+    let shape = Shape { step: [4, 20, 60, 200][random.below(4)], length: [1, 3, 9, 30, 240][random.below(5)] };
+    let strip = any_strip(random, marks, shape);
+    let (gap, damaged) = (some_gap(random), random.once_in(2));
+    some_call(random, strip, gap, limits, damaged)
+}
+
+// The same with up to the most marks that the call takes, or one more: few cells each, and in every other strip five marks a dot apart.
+fn many_cells_call(random: &mut Random, limits: &Limits) -> Call {
+    let marks = [random.below(200), random.below(2_000), limits.marks, limits.marks + 1][random.below(4)];
+    let (step, cells) = (60_000 / marks.max(20) as i32, [1, 1, 2, 4][random.below(4)]);
+    let mut strip = any_strip(random, marks, Shape { step: 1, length: cells });
+    let offset = |mark: usize| -30_000 + mark as i32 * step.min(200);
+    strip.places = (0..marks).map(|mark| (offset(mark) + random.below(step.min(6) as usize) as i32) as i16).collect();
+    if marks > 5 && random.once_in(2) {
+        let (at, cells) = (random.below(marks - 5), random.between(1, 9) as u8);
+        let five = [0, 1, 2, 3, 4].map(|dot| strip.places[at] + dot);
+        strip.places[at..at + 5].copy_from_slice(&five);
+        strip.lengths[at..at + 5].fill(cells);
+    }
+    let (gap, damaged) = (some_gap(random), random.once_in(4));
+    some_call(random, strip, gap, limits, damaged)
+}
+
 // Long strip or bad mark: 60, 61, 4,000 or 4,001 marks that fit, all good or with one fault.
 fn counted_strip(random: &mut Random, gap: u8) -> Strip {
     let marks = [60, 61, 4_000, 4_001][random.below(4)];
@@ -184,6 +211,32 @@ fn best_group(name: &str, seed: u64, cases: usize, numbers: &[u8], make: Make, b
     group(name, seed, cases, numbers, |r| make(r, &best::LIMITS), |r, c| best::compare(r, c, best_sum))
 }
 
+// Each of these groups must meet so many of the widths from 1 to 30.
+fn largest_group(name: &str, seed: u64, cases: usize, numbers: &[u8], widths: usize, make: Make, first: full::Search) -> usize {
+    let met = RefCell::new([0; largest::WIDEST as usize + 1]);
+    let compare = |random: &mut Random, call: &Call| {
+        let (number, width) = largest::compare(random, call, first)?;
+        met.borrow_mut()[width as usize] += 1;
+        Ok(number)
+    };
+    group(name, seed, cases, numbers, |r| make(r, &full::LIMITS), compare);
+    let found = met.borrow()[1..].iter().filter(|count| **count > 0).count();
+    println!("{name}: {found} widths");
+    if found < widths {
+        println!("{name}: fewer than {widths} widths were met");
+        std::process::exit(1);
+    }
+    cases
+}
+
+fn cells_to_6(random: &mut Random, limits: &Limits) -> Call {
+    cells_call(random, 6, limits)
+}
+
+fn cells_to_60(random: &mut Random, limits: &Limits) -> Call {
+    cells_call(random, 60, limits)
+}
+
 fn to_6(random: &mut Random, limits: &Limits) -> Call {
     small_call(random, 6, limits)
 }
@@ -222,6 +275,10 @@ pub fn run_all() -> usize {
         best_group("best, to 60 marks, all reaches", 8, 1_500, BEST_MANY, large_call, best::by_reaches),
         best_group("best, strips 7, 8, 9 and 11, plain search", 16, 500, BEST_FEW, worked_call, best::by_plain_search),
         best_group("best, all but four left out, all reaches", 13, 1_500, &[0], many_left_out_call, best::by_reaches),
+        largest_group("largest, to 6 marks, plain search", 26, 10_000, FEW, 30, cells_to_6, full::by_plain_search),
+        largest_group("largest, to 60 marks, dead ends kept", 27, 3_000, FEW, 30, cells_to_60, full::by_dead_ends),
+        largest_group("largest, to 4,000 marks, a loop over full", 28, 1_000, MANY, 20, many_cells_call, largest::by_exported_full),
+        largest_group("largest, long strip or bad mark", 29, 500, &[0, 7, 8], 1, counted_call, largest::by_exported_full),
         full_group("full, long strip or bad mark", 17, 500, &[0, 7, 8], counted_call, full::by_dead_ends),
         slide_group("slide, long strip or bad mark", 18, 500, &[0, 7, 8], counted_call, slide::by_reaches),
         best_group("best, long strip or bad mark", 19, 500, &[0, 7, 8], counted_call, best::by_reaches),

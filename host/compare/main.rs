@@ -1,4 +1,4 @@
-// Compares the eight exported calls with implementations that share nothing with them, on strips, jobs and texts from a fixed generator:
+// Compares the nine exported calls with implementations that share nothing with them, on strips, jobs and texts from a fixed generator:
 // numbers, answers, sums and counts, and lent memory with guard elements around every buffer. One line a group; a disagreement prints
 // its case, and ends with status 1.
 #[path = "../shared/calls.rs"]
@@ -14,6 +14,7 @@ mod full;
 mod groups;
 mod job;
 mod labels;
+mod largest;
 mod lent;
 mod marks;
 mod near;
