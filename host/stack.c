@@ -85,7 +85,7 @@ static uint16_t work_slide[STRIP_WORK_SLIDE];
 static uint32_t work_best[STRIP_WORK_BEST];
 static size_t missing;
 
-static uint8_t number, length;
+static uint8_t number, length, width;
 static uint32_t sum;
 static size_t count;
 
@@ -97,6 +97,7 @@ static uint8_t empty()
 }
 
 static __typeof__(strip_full) *volatile full;
+static __typeof__(strip_largest) *volatile largest;
 static __typeof__(strip_slide) *volatile slide;
 static __typeof__(strip_best) *volatile best;
 static __typeof__(strip_read) *volatile read_job;
@@ -111,6 +112,7 @@ static __typeof__(strip_lengths) *volatile measure_texts;
 static void call_the_calls(int calls)
 {
     full = calls ? strip_full : EMPTY_FOR(strip_full);
+    largest = calls ? strip_largest : EMPTY_FOR(strip_largest);
     slide = calls ? strip_slide : EMPTY_FOR(strip_slide);
     best = calls ? strip_best : EMPTY_FOR(strip_best);
     read_job = calls ? strip_read : EMPTY_FOR(strip_read);
@@ -124,6 +126,12 @@ static void at_full(void)
 {
     number = full(places, marks, lengths, lengths_len, weights, marks, gap, bytes, answer_len, work_full,
                   STRIP_WORK_FULL - missing);
+}
+
+static void at_largest(void)
+{
+    number = largest(places, marks, lengths, lengths_len, weights, marks, gap, bytes, answer_len, work_full,
+                     STRIP_WORK_LARGEST - missing, &width);
 }
 
 static void at_slide(void)
@@ -294,6 +302,7 @@ int main(void)
 
     printf("| call | stack, bytes | in strip.h | accepted | 11 | other refusals |\n|---|---|---|---|---|---|\n");
     more |= measure("full", at_full, STRIP_MARKS_FULL, STRIP_STACK_FULL);
+    more |= measure("largest", at_largest, STRIP_MARKS_LARGEST, STRIP_STACK_LARGEST);
     more |= measure("slide", at_slide, STRIP_MARKS_SLIDE, STRIP_STACK_SLIDE);
     more |= measure("best", at_best, STRIP_MARKS_BEST, STRIP_STACK_BEST);
     more |= measure("read", at_read, STRIP_MARKS_JOB, STRIP_STACK_READ);

@@ -1,4 +1,7 @@
-/* Strip 11 of document 01 through the passes and the job calls, from C, at gap 0; at gap 1 it no longer slides. Exit status 1 at a difference. */
+/*
+ * Strip 11 of document 01 through the passes and the job calls, from C, at gap 0; at gap 1 it no longer slides; and the largest letters with
+ * which its marks fit. Exit status 1 at a difference.
+ */
 #include "strip.h"
 
 #include <stdio.h>
@@ -49,6 +52,20 @@ static void full(void)
     uint8_t number = strip_full(places, MARKS, lengths, MARKS, weights, MARKS, 0, positions, MARKS, work_full, STRIP_WORK_FULL);
     expect(number == STRIP_NO_PLACING, "full gives 11");
     expect(memcmp(positions, untouched, sizeof positions) == 0, "positions are unchanged at 11");
+}
+
+/* With 10 cells its labels fit at no width. With one cell they fit at 9 dots: the label of mark 2, from 1 to 10, touches that of mark 5. */
+static void largest(void)
+{
+    static const uint8_t one_cell[MARKS] = {1, 1, 1, 1, 1};
+    static const uint8_t positions_expected[MARKS] = {2, 1, 3, 4, 1};
+    uint8_t positions[MARKS] = {7, 7, 7, 7, 7};
+    uint8_t width = 99;
+    uint8_t number = strip_largest(places, MARKS, lengths, MARKS, weights, MARKS, 0, positions, MARKS, work_full, STRIP_WORK_LARGEST, &width);
+    expect(number == STRIP_NO_PLACING && width == 0, "largest gives 11 and width 0 with 10 cells");
+    number = strip_largest(places, MARKS, one_cell, MARKS, weights, MARKS, 0, positions, MARKS, work_full, STRIP_WORK_LARGEST, &width);
+    expect(number == STRIP_ACCEPTED && width == 9, "largest gives width 9 with one cell");
+    expect(memcmp(positions, positions_expected, sizeof positions) == 0, "positions 2 1 3 4 1 at width 9");
 }
 
 /* The sides are open; given the sides, each edge is the greater of place - length and the reach of its side. */
@@ -116,6 +133,7 @@ int main(void)
 {
     read_job();
     full();
+    largest();
     slide();
     slide_at(1, STRIP_NO_PLACING, "slide gives 11 at gap 1");
     slide_at(STRIP_GAP_MOST + 1, STRIP_GAP_TOO_WIDE, "slide gives 12 at gap 9");

@@ -8,6 +8,9 @@
  * Labels may come as text, in bytes from 32 to 126. Their widths in the strip font are: space 4 dots; the letters i, l and the signs
  * ! ' , . : ; and | 3; m, w, M, W 9; all others 6. A label's length is the sum over its bytes.
  *
+ * Lengths may also be counted in letter cells, 1 to 240, all of one width; strip_largest finds the greatest width, 1 to 30 dots, at which
+ * the labels fit.
+ *
  * Every list is a pointer and then its count of elements. What the caller owes, and no call can test:
  *   - no pointer is NULL, also where the count is 0, and each is aligned for its element type;
  *   - each pointer has at least its count of elements behind it, all of them initialised;
@@ -19,7 +22,7 @@
  * unchanged. No call keeps a pointer, allocates memory or holds state of its own, so calls on separate buffers may run at once.
  *
  * The order of the checks:
- *   - passes: 6, 12, 7 over 4,000 marks, 8, 7 over the marks that the pass takes, 9, 10, and at the end 11;
+ *   - passes and largest: 6, 12, 7 over 4,000 marks, 8, 7 over the marks that the pass takes, 9, 10, and at the end 11;
  *   - writer: 6, 7 over 4,000 marks, 8, 9;
  *   - reader: 1 and 4 for the header, 9, then 1 to 4 record by record, and at the end 5;
  *   - measure: 13 over the whole text, 8; beginning: 13 over the whole text;
@@ -27,13 +30,14 @@
  * So past 6 and 12 slide and best refuse a strip of 61 to 4,000 marks by 8 if one of them is bad, and by 7 if all are good.
  *
  * The archive, target/staticlib/libexports.a, is an `ar` archive of one ELF object for x86-64 with the System V calling
- * convention: some 24,100 bytes, of them 16,400 code and constants, and no variables. It leaves one symbol undefined, memset. It
+ * convention: some 29,100 bytes, of them 19,700 code and constants, and no variables. It leaves one symbol undefined, memset. It
  * links into position-independent and into static programs. It uses SSE2 registers, and the 128 bytes below the stack pointer
  * that the convention keeps free: an interrupt on the same stack must leave both as they were.
  *
  * Steps for n marks, at most, as the loops go (read off the code, not proved; a step is a few comparisons):
  *   - every pass and the writer: 4n for the checks on entry, and none of them over 4,000 marks;
  *   - full: n to fill its table, n to walk, and 20,000 to clear the work area;
+ *   - largest: 5n, and then at each width, at most 30 of them, n for the lengths and a call of full;
  *   - slide: 482n to fill its table, n to walk, and 30,000 to clear the work area;
  *   - best: 2n(n + 1)(2n + 1)/3 cells with five offers each (295,240 cells at 60 marks), 2n(n + 1) offers that the cells of a row
  *     share, 2n + 2 to prepare, 8n to walk, n(n + 1)/2 to list the left-out marks, and 30,000 to clear the work area twice;
@@ -56,8 +60,9 @@ extern "C" {
  *   3: strip_full, strip_slide and strip_best take a gap behind the mark lists, and refuse 12; gap 0 gives the answers of version 2.
  *   4: strip_slide and strip_best refuse 8 where they refused 7: past 6 and 12, with 61 to 4,000 marks, at least one of them bad.
  *   5: strip_measure, strip_beginning and strip_lengths are new, and refuse 13; the other calls answer as in version 4.
+ *   6: strip_largest is new; the other calls answer as in version 5. strip_full takes up to 256 bytes of stack, in version 5 up to 128.
  */
-#define STRIP_VERSION 5
+#define STRIP_VERSION 6
 
 /* What a call returns. */
 #define STRIP_ACCEPTED 0
@@ -66,13 +71,13 @@ extern "C" {
 #define STRIP_ABSENT_VALUE 3    /* reader: a field holds the value it has if absent */
 #define STRIP_OUT_OF_RANGE 4    /* reader: a count, a place or a field is out of range */
 #define STRIP_BYTES_LEFT_OVER 5 /* reader: bytes follow the last record */
-#define STRIP_LISTS_UNEQUAL 6   /* passes, writer: mark lists of unequal length; lengths: counts that do not add up */
+#define STRIP_LISTS_UNEQUAL 6   /* passes, largest, writer: mark lists of unequal length; lengths: counts that do not add up */
 #define STRIP_TOO_MANY_MARKS 7  /* over 4,000 marks or texts; slide, best: also over 60 marks, all of them good */
 #define STRIP_BAD_MARK 8        /* a value out of range, or places not rising; measure, lengths: a text of 0 or over 240 dots */
 #define STRIP_LIST_TOO_SHORT 9  /* a list to be filled is shorter than the count of marks or texts, or the output than the job */
-#define STRIP_WORK_TOO_SHORT 10 /* passes: the work area is shorter than named below */
-#define STRIP_NO_PLACING 11     /* full, slide: not every mark can have a label */
-#define STRIP_GAP_TOO_WIDE 12   /* passes: the gap is over 8; tested right after 6 */
+#define STRIP_WORK_TOO_SHORT 10 /* passes, largest: the work area is shorter than named below */
+#define STRIP_NO_PLACING 11     /* full, slide: not every mark can have a label; largest: not even with cells of 1 dot */
+#define STRIP_GAP_TOO_WIDE 12   /* passes, largest: the gap is over 8; tested right after 6 */
 #define STRIP_STRAY_BYTE 13     /* measure, beginning, lengths: a byte outside 32 to 126 */
 
 /* The ranges of a mark. */
@@ -87,8 +92,15 @@ extern "C" {
 #define STRIP_GAP_LEAST 0
 #define STRIP_GAP_MOST 8
 
+/* Label lengths in letter cells, and the widths of a cell, in dots, that strip_largest tries. */
+#define STRIP_CELLS_LEAST 1
+#define STRIP_CELLS_MOST 240
+#define STRIP_WIDTH_LEAST 1
+#define STRIP_WIDTH_MOST 30
+
 /* The most marks that a call takes, and the most bytes that a job of so many marks has. */
 #define STRIP_MARKS_FULL 4000
+#define STRIP_MARKS_LARGEST 4000
 #define STRIP_MARKS_SLIDE 60
 #define STRIP_MARKS_BEST 60
 #define STRIP_MARKS_JOB 4000
@@ -103,11 +115,13 @@ extern "C" {
 
 /* The named part of each work area, in elements. The sizes do not depend on the strip. */
 #define STRIP_WORK_FULL 20000
+#define STRIP_WORK_LARGEST 20000
 #define STRIP_WORK_SLIDE 30000
 #define STRIP_WORK_BEST 15000
 
 /* Stack in bytes, at most, below a call's return address, beside what memset takes. Measured by host/stack.c, not proved. */
-#define STRIP_STACK_FULL 128
+#define STRIP_STACK_FULL 256
+#define STRIP_STACK_LARGEST 4608
 #define STRIP_STACK_SLIDE 128
 #define STRIP_STACK_BEST 512
 #define STRIP_STACK_READ 128
@@ -136,6 +150,20 @@ extern "C" {
 uint8_t strip_full(const int16_t *places, size_t places_len, const uint8_t *lengths, size_t lengths_len,
                    const uint16_t *weights, size_t weights_len, uint8_t gap, uint8_t *positions, size_t positions_len,
                    int16_t *work, size_t work_len);
+
+/*
+ * The largest letters: the greatest width of a letter cell, from STRIP_WIDTH_MOST dots down to 1, at which strip_full gives 0 for the
+ * strip whose lengths are cells times width. At a width at which a length would be over 240 the strip does not fit.
+ *
+ * 0: *width is that width, and the first places_len elements of positions are what strip_full gives at it. Every smaller width fits too
+ * and no greater one does, up to STRIP_WIDTH_MOST. No marks have the width STRIP_WIDTH_MOST.
+ * 11: the strip does not fit at 1 dot; *width is 0, positions is unchanged.
+ * At 0 and at 11 the first STRIP_WORK_LARGEST elements of work are 0 and the rest of it is unchanged. 6 to 10 and 12: *width is 0,
+ * nothing else is changed; the checks are those of strip_full with cells in place of lengths.
+ */
+uint8_t strip_largest(const int16_t *places, size_t places_len, const uint8_t *cells, size_t cells_len,
+                      const uint16_t *weights, size_t weights_len, uint8_t gap, uint8_t *positions, size_t positions_len,
+                      int16_t *work, size_t work_len, uint8_t *width);
 
 /*
  * The slide pass: a label for every mark, its left edge anywhere from place - length to place.
