@@ -10,7 +10,7 @@ use native.Mathlib.Omega.{arith}
 use lib.Dec.{ltb}
 use borrow.Author.Tests.{lt-ltb, ltb-true}
 use Rattle.geometry.specs.Mark.{Mark}
-use Rattle.geometry.specs.Position.{Side, Direction, leftward, rightward, Position, unlabelled, at, sameSide}
+use Rattle.geometry.specs.Position.{Direction, leftward, rightward, Position, unlabelled, at, sameSide}
 use Rattle.geometry.specs.Overlap.{leftEnd, rightEnd, overlaps, apart, free}
 use Rattle.geometry.specs.Placing.{firstPlacing}
 use Rattle.geometry.proofs.Split.{both, and-fst, and-snd}
@@ -42,7 +42,8 @@ less-too a b c d h k t = let less = ltb-true a b t in lt-ltb c d (omega arith)
 
 module _ (g : ℕ) where
   -- short labels that overlap do so when they are longer
-  longer-overlap : (m m′ n n′ : Mark) → Shorter m m′ → Shorter n n′ → (p q : Position) → overlaps g m p n q ≡ true → overlaps g m′ p n′ q ≡ true
+  longer-overlap : (m m′ n n′ : Mark) → Shorter m m′ → Shorter n n′ → (p q : Position) → overlaps g m p n q ≡ true
+      → overlaps g m′ p n′ q ≡ true
   longer-overlap m m′ n n′ h k unlabelled q t = t
   longer-overlap m m′ n n′ h k (at s d) unlabelled t = t
   longer-overlap m m′ n n′ h k (at s d) (at u e) t =

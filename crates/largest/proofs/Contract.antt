@@ -2,13 +2,13 @@
 -- work area; and none, where the last width tried was 1 dot. At a width that does not fit the full pass leaves the positions alone and
 -- the work area zero, or is not called, so nothing has to be undone.
 use mathlib.Core.Path.{_≡_, refl, sym, _∙_, ap}
-use mathlib.Core.Bool.{Bool, true, false, cond, false≢true}
+use mathlib.Core.Bool.{Bool, true, false, cond}
 use mathlib.Core.List.{List, [], _∷_}
 use mathlib.Core.Option.{Option, none, some}
 use Prim.Native.Nat.{ℕ, _*_, _-_, _≤_, _<_}
 use native.Mathlib.Omega.{arith}
 use lib.Dec.{leb}
-use lib.IntN.{ℤ, pos}
+use lib.IntN.{pos}
 use lib.ListN.{length, drop}
 use borrow.Author.Tests.{le-leb}
 use Rattle.geometry.specs.Lists.{every, firstOf}
@@ -17,11 +17,11 @@ use Rattle.geometry.specs.Strip.{Strip, mostMarks}
 use Rattle.geometry.specs.Position.{Position}
 use Rattle.geometry.specs.Refusal.{Verdict, accepted, refused, numberOf, refusalNumber, noPlacing}
 use Rattle.geometry.specs.Pass.{cleared, workAfter}
-use Rattle.geometry.proofs.Split.{both, one-to, by-bool, clash}
+use Rattle.geometry.proofs.Split.{both, one-to, by-bool}
 use Rattle.geometry.proofs.Lent.{cleared-again, drop-cleared}
 use Rattle.geometry.proofs.Accepted.{pass-accepted, first-good, rest-good}
 use Rattle.full.specs.Full.{workNamed, FullLent, fullChecks, fullVerdict, positionsAfter}
-use Rattle.largest.specs.Widths.{noneOver, placingAt, isThere, fitsAt, widest, widthsFrom, largestWidth, placingOf}
+use Rattle.largest.specs.Widths.{noneOver, placingAt, fitsAt, widest, widthsFrom, largestWidth, placingOf}
 use Rattle.largest.specs.Largest.{widthAfter, LargestContract}
 use Rattle.largest.specs.declared.answer.Largest.{Largest}
 use Rattle.largest.specs.inner.Cells.{mostOf}

@@ -1,16 +1,15 @@
 -- What the full pass says of the strip at a width. Where no length is over 240 the strip at that width passes the checks that the strip with
 -- cells in place of lengths has passed: a cell has at least a dot, so no length is 0, and nothing else has changed. So the pass gives 0
 -- exactly if it has a placing, and that is what it means to fit.
-use mathlib.Core.Path.{_≡_, refl, sym, _∙_, ap, subst}
+use mathlib.Core.Path.{_≡_, refl, sym, _∙_, subst}
 use mathlib.Core.Bool.{Bool, true, false, cond, false≢true}
 use mathlib.Core.List.{List, [], _∷_}
 use mathlib.Core.Logic.{_↔_}
 use mathlib.Core.Option.{Option, none, some}
-use Prim.Native.Nat.{ℕ, _*_, _≤_, _<_}
+use Prim.Native.Nat.{ℕ, _*_, _≤_}
 use native.Mathlib.Nat.{mul-pos}
 use native.Mathlib.Omega.{arith}
 use lib.Dec.{leb, eqb}
-use lib.IntN.{pos}
 use lib.ListN.{length, length-map}
 use borrow.Author.Tests.{le-leb, eq-eqb, eqb-true}
 use Rattle.geometry.specs.Lists.{every}
@@ -19,10 +18,9 @@ use Rattle.geometry.specs.Strip.{Strip, strip, marksOf, mostMarks}
 use Rattle.geometry.specs.Position.{Position}
 use Rattle.geometry.specs.Placing.{firstPlacing}
 use Rattle.geometry.specs.Refusal.{Verdict, accepted, refused, numberOf}
-use Rattle.geometry.specs.Pass.{cleared}
 use Rattle.geometry.proofs.Split.{both, and-fst, and-snd, one-to}
 use Rattle.geometry.proofs.Accepted.{PassAccepted, pass-accepted, accepted-entry, accept-pass, first-good, rest-good}
-use Rattle.geometry.proofs.Verdicts.{zero-accepted, refusal-positive}
+use Rattle.geometry.proofs.Verdicts.{refusal-positive}
 use Rattle.full.specs.Full.{workNamed, FullLent, fullChecks, fullVerdict, FullContract}
 use Rattle.largest.specs.Widths.{lengthsAt, stripAt, noneOver, placingAt, isThere, fitsAt}
 use Rattle.largest.specs.inner.Cells.{ScaleReady}

@@ -2,12 +2,12 @@
 -- induction on the width, with a case split on whether it fits.
 use mathlib.Core.Path.{_≡_, refl, sym, _∙_, ap}
 use mathlib.Core.Bool.{Bool, true, false, cond}
-use mathlib.Core.Logic.{_⊎_, inl, inr, ⊎-elim}
-use mathlib.Core.Option.{none, some}
+use mathlib.Core.Logic.{_⊎_, ⊎-elim}
+use mathlib.Core.Option.{Option, none, some}
 use Prim.Native.Nat.{ℕ, zero, suc, _≤_, _<_}
 use native.Mathlib.Omega.{arith}
 use Rattle.geometry.specs.Lists.{firstOf}
-use Rattle.geometry.proofs.Split.{by-bool, clash, lt-or-ge}
+use Rattle.geometry.proofs.Split.{by-bool, lt-or-ge}
 use Rattle.geometry.proofs.Words.{never-none}
 use Rattle.largest.specs.Widths.{widthsFrom}
 
@@ -30,11 +30,15 @@ module _ (fits : ℕ → Bool) where
             ⊎-elim (λ (h : up-to < w). let next : w ≡ suc up-to = omega arith in rw next not) (greatest .greater-not w more) (lt-or-ge up-to w);
       }
 
+  -- the first of one width more, by whether that one fits
+  abbrev first-if : Bool → ℕ → Option ℕ
+  first-if does up-to = cond does (some (suc up-to)) (firstOf fits (widthsFrom up-to))
+
   pub first-greatest : (up-to width : ℕ) → firstOf fits (widthsFrom up-to) ≡ some width → Greatest up-to width
   unfolding firstOf widthsFrom
   first-greatest zero width e = never-none width (sym e)
   first-greatest (suc up-to) width e =
-      by-bool (fits (suc up-to)) (λ t. fits (suc up-to) ≡ t → cond t (some (suc up-to)) (firstOf fits (widthsFrom up-to)) ≡ some width → Greatest (suc up-to) width)
+      by-bool (fits (suc up-to)) (λ t. fits (suc up-to) ≡ t → first-if t up-to ≡ some width → Greatest (suc up-to) width)
       (λ _ does found.
       let is : width ≡ suc up-to = cc in
       record { least = omega arith; most = omega arith; does = rw is does; greater-not = λ w more within. absurd (omega arith) })
@@ -62,11 +66,12 @@ module _ (fits : ℕ → Bool) where
       rw (does, is) refl)
       (lt-or-ge width (suc up-to))
 
-  pub none-fits-at-all : (up-to : ℕ) → firstOf fits (widthsFrom up-to) ≡ none → (width : ℕ) → 1 ≤ width → width ≤ up-to → fits width ≡ false
+  pub none-fits-at-all : (up-to : ℕ) → firstOf fits (widthsFrom up-to) ≡ none → (width : ℕ) → 1 ≤ width → width ≤ up-to
+      → fits width ≡ false
   unfolding firstOf widthsFrom
   none-fits-at-all zero e width least most = absurd (omega arith)
   none-fits-at-all (suc up-to) e width least most =
-      by-bool (fits (suc up-to)) (λ t. fits (suc up-to) ≡ t → cond t (some (suc up-to)) (firstOf fits (widthsFrom up-to)) ≡ none → fits width ≡ false)
+      by-bool (fits (suc up-to)) (λ t. fits (suc up-to) ≡ t → first-if t up-to ≡ none → fits width ≡ false)
       (λ _ does found. never-none (suc up-to) found)
       (λ _ not none-found.
       ⊎-elim

@@ -2,10 +2,10 @@
 -- fits is the greatest; since every smaller width fits too, none is found exactly if 1 dot does not fit; and a strip without marks fits
 -- at every width.
 use mathlib.Core.Path.{_≡_, refl, sym, _∙_, ap}
-use mathlib.Core.Bool.{true, false}
-use mathlib.Core.List.{List, [], _∷_}
+use mathlib.Core.Bool.{true}
+use mathlib.Core.List.{[]}
 use mathlib.Core.Option.{Option, none, some}
-use Prim.Native.Nat.{ℕ, _≤_}
+use Prim.Native.Nat.{ℕ}
 use native.Mathlib.Omega.{arith}
 use lib.ListN.{length, drop-of-length-le}
 use Rattle.geometry.specs.Lists.{every, firstOf, wordsOf}

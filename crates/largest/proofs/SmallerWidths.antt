@@ -1,6 +1,6 @@
 -- Every smaller width fits too: at a smaller width every label is shorter, or as long, at its own place, so a placing of the strip at the
 -- greater width is one at the smaller, and a length that is not over 240 dots is not over it there either.
-use mathlib.Core.Path.{_≡_, refl, sym, _∙_, ap}
+use mathlib.Core.Path.{_≡_, refl}
 use mathlib.Core.Bool.{true}
 use mathlib.Core.List.{List, [], _∷_}
 use Prim.Native.Nat.{ℕ, _*_, _≤_}
@@ -15,7 +15,7 @@ use Rattle.geometry.specs.Strip.{Strip, marksOfLists, marksOf}
 use Rattle.geometry.specs.Placing.{firstPlacing}
 use Rattle.geometry.proofs.Split.{both, and-fst, and-snd}
 use Rattle.geometry.proofs.Shorter.{AllShorter, placing-shorter}
-use Rattle.largest.specs.Widths.{lengthsAt, stripAt, noneOver, placingAt, isThere, fitsAt}
+use Rattle.largest.specs.Widths.{lengthsAt, stripAt, noneOver, placingAt, fitsAt}
 use Rattle.largest.proofs.FullAtWidth.{is-there, there-within}
 
 module _ (v w : ℕ) (less : v ≤ w) where

@@ -8,7 +8,7 @@ use lib.IntN.{pos}
 use lib.ListN.{replicate}
 use Rattle.geometry.specs.Lists.{every, firstOf, prefixed, wordsOf}
 use Rattle.geometry.specs.Strip.{Strip, strip, marksOfLists}
-use Rattle.geometry.specs.Position.{Position, above, below, leftward, rightward, at}
+use Rattle.geometry.specs.Position.{above, below, leftward, rightward, at}
 use Rattle.geometry.specs.Overlap.{apart, free}
 use Rattle.geometry.specs.Placing.{firstPlacing}
 use Rattle.largest.specs.Widths.{placingAt, widthsFrom, largestWidth}

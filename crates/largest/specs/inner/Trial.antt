@@ -3,12 +3,11 @@ use Prim.Native.Nat.{ℕ, _≤_}
 use mathlib.Core.Path.{_≡_}
 use mathlib.Core.Bool.{Bool, cond}
 use lib.IntN.{pos}
-use lib.ListN.{length}
 use Rattle.geometry.specs.Strip.{Strip}
 use Rattle.geometry.specs.Refusal.{accepted}
 use Rattle.geometry.specs.Pass.{cleared}
 use Rattle.full.specs.Full.{workNamed, FullLent, fullChecks, positionsAfter}
-use Rattle.largest.specs.Widths.{noneOver, placingAt, fitsAt, widest}
+use Rattle.largest.specs.Widths.{noneOver, placingAt, fitsAt}
 use Rattle.largest.specs.inner.Cells.{mostOf}
 
 -- the checks are passed, with cells in place of lengths

@@ -1,16 +1,15 @@
 -- `largest::widths::fits_at` meets its contract: by the full pass's contract of the strip at the width, or with nothing called.
 use mathlib.Core.Path.{_≡_, refl, sym, _∙_, ap}
-use mathlib.Core.Bool.{true, false}
+use mathlib.Core.Bool.{true}
 use mathlib.Core.List.{List}
 use Prim.Native.Nat.{ℕ, _≤_}
 use native.Mathlib.Omega.{arith}
-use lib.ListN.{length, take, length-map}
+use lib.ListN.{length, take}
 use lib.Seq.{length-take-le}
 use borrow.Author.Needs.{needs}
 use borrow.Author.Tests.{not-true, not-false}
 use Rattle.geometry.specs.Strip.{Strip, strip}
-use Rattle.geometry.proofs.Lent.{used-is, used-within}
-use Rattle.full.specs.Full.{FullLent, fullLent, FullContract}
+use Rattle.full.specs.Full.{FullLent, fullLent}
 use Rattle.largest.specs.Widths.{lengthsAt, noneOver}
 use Rattle.largest.proofs.Scaling.{lengths-used, lengths-within}
 use Rattle.largest.proofs.FullAtWidth.{ready-to-scale, tried, passed-over}
