@@ -93,14 +93,14 @@ extern "C" {
 #define STRIP_GAP_MOST 8
 
 /* Label lengths in letter cells, and the widths of a cell, in dots, that strip_largest tries. */
-#define STRIP_CELLS_LEAST 1
-#define STRIP_CELLS_MOST 240
+#define STRIP_CELLS_LEAST STRIP_LENGTH_LEAST
+#define STRIP_CELLS_MOST STRIP_LENGTH_MOST
 #define STRIP_WIDTH_LEAST 1
 #define STRIP_WIDTH_MOST 30
 
 /* The most marks that a call takes, and the most bytes that a job of so many marks has. */
 #define STRIP_MARKS_FULL 4000
-#define STRIP_MARKS_LARGEST 4000
+#define STRIP_MARKS_LARGEST STRIP_MARKS_FULL
 #define STRIP_MARKS_SLIDE 60
 #define STRIP_MARKS_BEST 60
 #define STRIP_MARKS_JOB 4000
@@ -115,7 +115,7 @@ extern "C" {
 
 /* The named part of each work area, in elements. The sizes do not depend on the strip. */
 #define STRIP_WORK_FULL 20000
-#define STRIP_WORK_LARGEST 20000
+#define STRIP_WORK_LARGEST STRIP_WORK_FULL
 #define STRIP_WORK_SLIDE 30000
 #define STRIP_WORK_BEST 15000
 

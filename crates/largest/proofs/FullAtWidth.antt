@@ -48,9 +48,9 @@ module _ (width : ℕ) where
   lengths-good [] wide good within = refl
   lengths-good (c ∷ cells) wide good within =
       let here = leb (c * width) mostLength in
-      let some = one-to mostLength c (first-good lengthInRange c cells good) .0 in
+      let positive = one-to mostLength c (first-good lengthInRange c cells good) .0 in
       both (lengthInRange (c * width)) _
-      (both (leb 1 (c * width)) here (le-leb 1 (c * width) (mul-pos some wide)) (and-fst here (noneOver width cells) within))
+      (both (leb 1 (c * width)) here (le-leb 1 (c * width) (mul-pos positive wide)) (and-fst here (noneOver width cells) within))
       (lengths-good cells wide (rest-good lengthInRange c cells good) (and-snd here (noneOver width cells) within))
 
   -- and lengths in range are not over 240

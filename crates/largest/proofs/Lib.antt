@@ -6,5 +6,5 @@ pub mod InTurn
 pub mod Contract
 pub mod SmallerWidths
 pub mod GreatestFirst
-pub mod InWords
+pub mod LargestInWords
 pub mod WidthExample

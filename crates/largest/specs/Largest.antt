@@ -36,7 +36,7 @@ pub record IsLargest (g : ℕ) (s : Strip) (width : ℕ) : Type 0 where
 
 -- What document 02 says of number and width, in its own words, of any answer that meets the contract where the checks are passed
 -- (`largest-in-words` in proofs/).
-pub record InWords (s : Strip) (g : ℕ) (r : Largest) : Type 0 where
+pub record LargestInWords (s : Strip) (g : ℕ) (r : Largest) : Type 0 where
   -- "The width found fits and every greater one up to 30 does not"; and no other answer is such a width
   pub found : r .number ≡ 0 → IsLargest g s (r .width)
   pub only : (width : ℕ) → IsLargest g s width → (r .number ≡ 0) × (r .width ≡ width)

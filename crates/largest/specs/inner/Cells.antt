@@ -12,7 +12,7 @@ unfoldable pub mostOf : List ℕ → ℕ
 mostOf [] = 0
 mostOf (c ∷ cells) = max c (mostOf cells)
 
--- whether no length is over 240 at so many dots, of any cells of which `most` is the greatest count
+-- whether no length is over 240, of any cells of which `most` is the greatest count, at a width of so many dots
 abbrev pub WithinMost : ℕ → ℕ → Bool → Type 0
 WithinMost most dots within = (cells : List ℕ) (width : ℕ) → most ≡ mostOf cells → dots ≡ width → within ≡ noneOver width cells
 

@@ -18,7 +18,7 @@ use Rattle.geometry.proofs.Words.{never-none}
 use Rattle.geometry.proofs.Accepted.{pass-accepted}
 use Rattle.full.specs.Full.{workNamed, FullLent, fullChecks}
 use Rattle.largest.specs.Widths.{placingAt, fitsAt, widest, largestWidth}
-use Rattle.largest.specs.Largest.{LargestContract, IsLargest, InWords}
+use Rattle.largest.specs.Largest.{LargestContract, IsLargest, LargestInWords}
 use Rattle.largest.specs.declared.answer.Largest.{Largest}
 use Rattle.largest.proofs.FullAtWidth.{is-there}
 use Rattle.largest.proofs.SmallerWidths.{smaller-fits}
@@ -68,7 +68,7 @@ module _ (g : ℕ) (s : Strip) where
       width-is : r .width ≡ width
       width-is = met .width-is ∙ rw (checked, found) refl
 
-      one-found : InWords s g r
+      one-found : LargestInWords s g r
       one-found =
           record {
             found = λ _. rw width-is largest;
@@ -89,7 +89,7 @@ module _ (g : ℕ) (s : Strip) where
       none-is-largest : {X : Type 0} → (width : ℕ) → IsLargest g s width → X
       none-is-largest width is = never-none width (sym (only-largest width is) ∙ none-found)
 
-      nothing-found : InWords s g r
+      nothing-found : LargestInWords s g r
       nothing-found =
           record {
             found = λ zero. absurd (omega (arith, number-is-11));
@@ -99,9 +99,9 @@ module _ (g : ℕ) (s : Strip) where
             no-marks = λ no-places. none-is-largest widest (empty-largest no-places);
           }
 
-    either : (o : Option ℕ) → largestWidth g s ≡ o → InWords s g r
+    either : (o : Option ℕ) → largestWidth g s ≡ o → LargestInWords s g r
     either none e = nothing-found e
     either (some width) e = one-found width e
 
-    pub largest-in-words : InWords s g r
+    pub largest-in-words : LargestInWords s g r
     largest-in-words = either (largestWidth g s) refl
