@@ -67,14 +67,15 @@ fn all_but_four_left_out(strips: usize) -> Vec<Strip> {
     strips
 }
 
-// Strips of 4,000 marks with lengths in cells that fit at no width: the first five marks are a dot apart with 8 cells each, which do not
-// fit at 1 dot and are not over 240 dots at 30. The others, 15 dots apart with a cell each, fit at every width, so that each call of
-// the full pass goes through all of them.
-fn no_width(strips: usize) -> Vec<Strip> {
+// Strips with lengths in cells that fit at no width: the first five marks are a dot apart with 8 cells each, which do not fit at 1 dot
+// and are not over 240 dots at 30. The others, 15 dots apart with a cell each, fit at every width, so that each call of the full pass
+// goes through all of them.
+fn no_width(strips: usize, marks: usize) -> Vec<Strip> {
+    let place = |k: i32| k.min(4) + 15 * (k - 4).max(0) - 30_000;
     let crowd = |first: usize| Strip {
-        places: (0..4_000).map(|k| (first as i32 - 30_000 + k.min(4) + 15 * (k - 4).max(0)) as i16).collect(),
-        lengths: (0..4_000).map(|k| if k < 5 { 8 } else { 1 }).collect(),
-        weights: vec![1; 4_000],
+        places: (0..marks).map(|k| (first as i32 + place(k as i32)) as i16).collect(),
+        lengths: (0..marks).map(|k| if k < 5 { 8 } else { 1 }).collect(),
+        weights: vec![1; marks],
     };
     (0..strips).map(crowd).collect()
 }
@@ -339,7 +340,8 @@ fn main() {
     let long = with_jobs(&fitting(MANY, 60, LONG));
     let (few, few_long) = (&short[..FEW], &long[..FEW]);
     let crowd = &with_jobs(&all_but_four_left_out(FEW));
-    let (letters, crammed) = (with_jobs(&in_cells(&strips)), with_jobs(&no_width(MANY)));
+    let (letters, crammed) = (with_jobs(&in_cells(&strips)), with_jobs(&no_width(MANY, 4_000)));
+    let few_crammed = with_jobs(&no_width(MANY, 60));
     let (words, lines) = (texts(FEW, 1..21), texts(FEW, 27..61));
     let rows = [
         row("full, 2,000 marks", &half, 0, FULL),
@@ -348,6 +350,7 @@ fn main() {
         row("full, 4,000 marks, no placing of the last 30", &end, 11, FULL),
         row("largest, 4,000 marks, labels of 1 to 3 cells", &letters, 0, LARGEST),
         row("largest, 4,000 marks, no placing at any width", &crammed, 11, LARGEST),
+        row("largest, 60 marks, no placing at any width", &few_crammed, 11, LARGEST),
         row("slide, 60 marks, lengths to 20", &short, 0, SLIDE),
         row("slide, 60 marks, lengths to 240", &long, 0, SLIDE),
         row("best, 60 marks, lengths to 20", few, 0, BEST),
@@ -364,7 +367,7 @@ fn main() {
     println!("\nfull from 2,000 to 4,000 marks: {:.2} times the time", times(exported::full, &half, exported::full, &whole));
     let multiple = |inputs: &[Input]| times(exported::full, &at_width_found(inputs), exported::largest, inputs);
     let (fits, none) = (multiple(&letters), multiple(&crammed));
-    println!("largest: {fits:.1} times one call of full where the strip fits at some width, {none:.1} times where it fits at none");
+    println!("largest: {fits:.1} times one call of full where a width fits, {none:.1} times where none does");
     let halved = |inputs: &[Input]| times(plain_largest, inputs, plain_largest_by_halves, inputs);
     let (fits, none) = (halved(&letters), halved(&crammed));
     println!("plain Rust by halving the widths: {fits:.2} and {none:.2} times the time of plain Rust from the top");

@@ -22,7 +22,7 @@ fn fitting(strip: &Strip, gap: i32, first: Search) -> Vec<(u8, Vec<u8>)> {
 }
 
 // The first placing as the exported full pass has it. For strips of any length.
-pub fn by_exported_full(strip: &Strip, gap: i32) -> Option<Vec<u8>> {
+pub fn by_full(strip: &Strip, gap: i32) -> Option<Vec<u8>> {
     let mut positions = vec![0; strip.places.len()];
     let mut work = vec![0; LIMITS.work];
     let number = calls::full(&strip.places, &strip.lengths, &strip.weights, gap as u8, &mut positions, &mut work);

@@ -1,9 +1,8 @@
-// The three passes and the search for the largest letters for a C host, each at a gap of 0 to 8 dots.
+// The three passes for a C host, each at a gap of 0 to 8 dots.
 ghost use Rattle.geometry.specs.Strip.{strip};
 ghost use Rattle.full.specs.Full.{fullLent, FullContract};
 ghost use Rattle.slide.specs.Slide.{slideLent, SlideContract};
 ghost use Rattle.best.specs.Best.{bestLent, BestContract};
-ghost use Rattle.largest.specs.Largest.{LargestContract};
 
 // The position of every mark in `positions`, or 11; 6 to 10 or 12 if a check is not passed.
 #[no_mangle]
@@ -65,28 +64,5 @@ pub extern "C" fn strip_best(
     let answer = best::best(places, lengths, weights, gap, positions, left_out, work);
     *sum = answer.sum;
     *count = answer.count;
-    answer.number
-}
-
-// The greatest width of a letter cell, 30 dots down to 1, at which full places labels of so many cells, in `width`, and its positions
-// at that width in `positions`, or 11; 6 to 10 or 12 if a check is not passed. `width` is set at every return, to 0 at a refusal.
-#[no_mangle]
-pub extern "C" fn strip_largest(
-    places: &[i16],
-    cells: &[u8],
-    weights: &[u16],
-    gap: u8,
-    positions: &mut [u8],
-    work: &mut [i16],
-    width: &mut u8,
-) -> u8
-    ensures { λ r. ⌜ LargestContract
-        (strip (now (places .entry)) (now (cells .entry)) (now (weights .entry))) gap
-        (fullLent (now (positions .entry)) (now (work .entry)))
-        (fullLent (now (positions .exit)) (now (work .exit)))
-        (record { number = r; width = now (width .exit) }) ⌝ }
-{
-    let answer = largest::largest(places, cells, weights, gap, positions, work);
-    *width = answer.width;
     answer.number
 }
