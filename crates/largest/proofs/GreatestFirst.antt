@@ -10,17 +10,11 @@ use Rattle.geometry.specs.Lists.{firstOf}
 use Rattle.geometry.proofs.Split.{by-bool, lt-or-ge}
 use Rattle.geometry.proofs.Words.{never-none}
 use Rattle.largest.specs.Widths.{widthsFrom}
+use Rattle.largest.specs.Largest.{Greatest}
 
 module _ (fits : ℕ → Bool) where
-  -- a width up to another that fits, and no greater one up to that does
-  pub record Greatest (up-to width : ℕ) : Type 0 where
-    pub least : 1 ≤ width
-    pub most : width ≤ up-to
-    pub does : fits width ≡ true
-    pub greater-not : (w : ℕ) → width < w → w ≤ up-to → fits w ≡ false
-
   -- the greatest of smaller widths, where the next one does not fit
-  with-next : (up-to width : ℕ) → fits (suc up-to) ≡ false → Greatest up-to width → Greatest (suc up-to) width
+  with-next : (up-to width : ℕ) → fits (suc up-to) ≡ false → Greatest fits up-to width → Greatest fits (suc up-to) width
   with-next up-to width not greatest =
       record {
         least = greatest .least;
@@ -34,11 +28,11 @@ module _ (fits : ℕ → Bool) where
   abbrev first-if : Bool → ℕ → Option ℕ
   first-if does up-to = cond does (some (suc up-to)) (firstOf fits (widthsFrom up-to))
 
-  pub first-greatest : (up-to width : ℕ) → firstOf fits (widthsFrom up-to) ≡ some width → Greatest up-to width
+  pub first-greatest : (up-to width : ℕ) → firstOf fits (widthsFrom up-to) ≡ some width → Greatest fits up-to width
   unfolding firstOf widthsFrom
   first-greatest zero width e = never-none width (sym e)
   first-greatest (suc up-to) width e =
-      by-bool (fits (suc up-to)) (λ t. fits (suc up-to) ≡ t → first-if t up-to ≡ some width → Greatest (suc up-to) width)
+      by-bool (fits (suc up-to)) (λ t. fits (suc up-to) ≡ t → first-if t up-to ≡ some width → Greatest fits (suc up-to) width)
       (λ _ does found.
       let is : width ≡ suc up-to = cc in
       record { least = omega arith; most = omega arith; does = rw is does; greater-not = λ w more within. absurd (omega arith) })
@@ -46,7 +40,7 @@ module _ (fits : ℕ → Bool) where
       refl
       e
 
-  pub greatest-first : (up-to width : ℕ) → Greatest up-to width → firstOf fits (widthsFrom up-to) ≡ some width
+  pub greatest-first : (up-to width : ℕ) → Greatest fits up-to width → firstOf fits (widthsFrom up-to) ≡ some width
   unfolding firstOf widthsFrom
   greatest-first zero width greatest = absurd (omega (arith, greatest .least, greatest .most))
   greatest-first (suc up-to) width greatest =

@@ -22,7 +22,7 @@ use Rattle.largest.specs.Largest.{LargestContract, IsLargest, LargestInW
 use Rattle.largest.specs.declared.answer.Largest.{Largest}
 use Rattle.largest.proofs.FullAtWidth.{is-there}
 use Rattle.largest.proofs.SmallerWidths.{smaller-fits}
-use Rattle.largest.proofs.GreatestFirst.{Greatest, first-greatest, greatest-first, none-fits-at-all}
+use Rattle.largest.proofs.GreatestFirst.{first-greatest, greatest-first, none-fits-at-all}
 
 -- no marks: no length is over 240, and the placing has no labels
 empty-fits : (g : ℕ) (s : Strip) (width : ℕ) → s .places ≡ [] → s .lengths ≡ [] → fitsAt g s width ≡ true
@@ -33,18 +33,11 @@ some-same : {v w : ℕ} → _≡_ {A = Option ℕ} (some v) (some w) → v ≡ w
 some-same e = cc
 
 module _ (g : ℕ) (s : Strip) where
-  -- the greatest in words is the greatest of the widths in turn
-  as-greatest : (width : ℕ) → IsLargest g s width → Greatest (fitsAt g s) widest width
-  as-greatest width largest =
-      record { least = largest .least; most = largest .most; does = largest .fits; greater-not = largest .greater-not }
+  only-largest : (width : ℕ) → IsLargest g s width → largestWidth g s ≡ some width
+  only-largest = greatest-first (fitsAt g s) widest
 
-  pub only-largest : (width : ℕ) → IsLargest g s width → largestWidth g s ≡ some width
-  only-largest width largest = greatest-first (fitsAt g s) widest width (as-greatest width largest)
-
-  pub found-largest : (width : ℕ) → largestWidth g s ≡ some width → IsLargest g s width
-  found-largest width found =
-      let greatest = first-greatest (fitsAt g s) widest width found in
-      record { least = greatest .least; most = greatest .most; fits = greatest .does; greater-not = greatest .greater-not }
+  found-largest : (width : ℕ) → largestWidth g s ≡ some width → IsLargest g s width
+  found-largest = first-greatest (fitsAt g s) widest
 
   module _ (entry exit : FullLent) (r : Largest) (checked : fullChecks s g entry ≡ accepted) (met : LargestContract s g entry exit r) where
     empty-largest : s .places ≡ [] → IsLargest g s widest
@@ -53,7 +46,7 @@ module _ (g : ℕ) (s : Strip) where
         record {
           least = omega arith;
           most = omega arith;
-          fits = empty-fits g s widest no-places (drop-of-length-le (s .lengths) {i = 0} (omega (arith, same, ap length no-places)));
+          does = empty-fits g s widest no-places (drop-of-length-le (s .lengths) {i = 0} (omega (arith, same, ap length no-places)));
           greater-not = λ w more within. absurd (omega arith);
         }
 
@@ -63,7 +56,7 @@ module _ (g : ℕ) (s : Strip) where
       largest = found-largest width found
 
       number-is-0 : r .number ≡ 0
-      number-is-0 = met .number-is ∙ rw (checked, found, is-there (placingAt g s width) (largest .fits) .1) refl
+      number-is-0 = met .number-is ∙ rw (checked, found, is-there (placingAt g s width) (largest .does) .1) refl
 
       width-is : r .width ≡ width
       width-is = met .width-is ∙ rw (checked, found) refl
@@ -75,9 +68,9 @@ module _ (g : ℕ) (s : Strip) where
             only = λ w is. (number-is-0, width-is ∙ some-same (sym found ∙ only-largest w is));
             none-exactly = (
               λ eleven. absurd (omega (arith, number-is-0)),
-              λ not. clash (smaller-fits 1 width (largest .least) g s (largest .fits)) not,
+              λ not. clash (smaller-fits 1 width (largest .least) g s (largest .does)) not,
             );
-            smaller-fit = λ _ w less. smaller-fits w width (omega (arith, width-is)) g s (largest .fits);
+            smaller-fit = λ _ w less. smaller-fits w width (omega (arith, width-is)) g s (largest .does);
             no-marks = λ no-places. (number-is-0, width-is ∙ some-same (sym found ∙ only-largest widest (empty-largest no-places)));
           }
 

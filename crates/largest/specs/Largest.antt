@@ -2,7 +2,7 @@
 -- and a width found comes with the full pass's positions at it." (document 02, P6)
 use Prim.Native.Nat.{ℕ, _≤_, _<_}
 use mathlib.Core.Path.{_≡_}
-use mathlib.Core.Bool.{true, false}
+use mathlib.Core.Bool.{Bool, true, false}
 use mathlib.Core.Logic.{_↔_}
 use mathlib.Core.List.{[]}
 use mathlib.Core.Option.{Option, none, some}
@@ -27,12 +27,15 @@ pub record LargestContract (s : Strip) (g : ℕ) (entry exit : FullLent) (r : La
   pub positions-are : exit .positions ≡ positionsAfter (fullChecks s g entry) (placingOf g s (largestWidth g s)) (entry .positions)
   pub work-is : exit .work ≡ workAfter workNamed (pos 0) (fullChecks s g entry) (entry .work)
 
--- "The width found fits and every greater one up to 30 does not"
-pub record IsLargest (g : ℕ) (s : Strip) (width : ℕ) : Type 0 where
+-- "The width found fits and every greater one up to 30 does not": said of any test of widths, and of any width in place of 30
+pub record Greatest (fits : ℕ → Bool) (up-to width : ℕ) : Type 0 where
   pub least : 1 ≤ width
-  pub most : width ≤ widest
-  pub fits : fitsAt g s width ≡ true
-  pub greater-not : (w : ℕ) → width < w → w ≤ widest → fitsAt g s w ≡ false
+  pub most : width ≤ up-to
+  pub does : fits width ≡ true
+  pub greater-not : (w : ℕ) → width < w → w ≤ up-to → fits w ≡ false
+
+abbrev pub IsLargest : ℕ → Strip → ℕ → Type 0
+IsLargest g s width = Greatest (fitsAt g s) widest width
 
 -- What document 02 says of number and width, in its own words, of any answer that meets the contract where the checks are passed
 -- (`largest-in-words` in proofs/).
