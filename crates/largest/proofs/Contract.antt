@@ -64,15 +64,8 @@ module _ (s : Strip) (g : ℕ) (entry : FullLent) where
     pub rest-kept : drop workNamed (lent .work) ≡ drop workNamed (entry .work)
     pub work-long : length (lent .work) ≡ length (entry .work)
 
-  pub trying-starts : (width : ℕ) → width ≡ widest → Trying entry width
-  trying-starts width is =
-      record {
-        least = omega arith;
-        among-left = ap (λ w. firstOf (fitsAt g s) (widthsFrom w)) (sym is);
-        positions-kept = refl;
-        rest-kept = refl;
-        work-long = refl;
-      }
+  pub trying-starts : Trying entry widest
+  trying-starts = record { least = omega arith; among-left = refl; positions-kept = refl; rest-kept = refl; work-long = refl }
 
   module _ (checked : fullChecks s g entry ≡ accepted) (lent : FullLent) (width : ℕ) (trying : Trying lent width) where
     -- so the next can be tried

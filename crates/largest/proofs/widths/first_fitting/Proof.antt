@@ -61,7 +61,7 @@ abbrev failing : tie.Else1 Inv-loop μ-loop → Known
 failing c = let lists = c .before .before in lists .before .before
 
 loop-holds : tie.Need-loop-holds Inv-loop μ-loop
-loop-holds c = let a = start c in trying-starts (whole a) _ (entry a) _ (omega arith)
+loop-holds c = let a = start c in trying-starts (whole a) _ (entry a)
 
 fits-at-requires : tie.Need-fits-at-requires Inv-loop μ-loop
 fits-at-requires c κs =
