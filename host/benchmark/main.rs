@@ -158,9 +158,9 @@ macro_rules! runs {
     };
 }
 
-// The search for the largest letters of one archive; the lengths of an input are its counts of cells.
+// The search for the largest letters of the archive that `runs!` has named; the lengths of an input are its counts of cells.
 macro_rules! run_of_cells {
-    ($calls:path) => {
+    () => {
         pub fn largest(i: &Input, l: &mut Lists) {
             let (positions, work, width) = (&mut l.bytes, &mut l.work_i16, &mut l.width);
             l.number = calls::largest(&i.places, &i.lengths, &i.weights, crate::gap(), positions, work, width);
@@ -209,7 +209,7 @@ macro_rules! runs_of_texts {
 
 mod exported {
     runs!(crate::calls, crate::gap());
-    run_of_cells!(crate::calls);
+    run_of_cells!();
     runs_of_texts!(crate::calls);
 }
 
@@ -220,7 +220,7 @@ mod earlier {
     #[cfg(without_gap)]
     runs!(::before);
     #[cfg(not(without_cells))]
-    run_of_cells!(::before);
+    run_of_cells!();
     #[cfg(not(without_texts))]
     runs_of_texts!(::before);
 }

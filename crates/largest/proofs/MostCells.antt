@@ -50,7 +50,7 @@ max-within x y most =
     (λ h. same-test (max x y) most y most (omega arith) (omega arith))
     (λ h. lt-leb (max x y) most (omega arith))
 
-most-decides : (cells : List ℕ) (width : ℕ) → leb (mostOf cells * width) mostLength ≡ noneOver width cells
+pub most-decides : (cells : List ℕ) (width : ℕ) → leb (mostOf cells * width) mostLength ≡ noneOver width cells
 unfolding mostOf every
 most-decides [] width = le-leb (0 * width) mostLength (omega arith)
 most-decides (c ∷ cells) width =

@@ -1,21 +1,20 @@
 -- Every smaller width fits too: at a smaller width every label is shorter, or as long, at its own place, so a placing of the strip at the
 -- greater width is one at the smaller, and a length that is not over 240 dots is not over it there either.
-use mathlib.Core.Path.{_≡_, refl}
+use mathlib.Core.Path.{_≡_, refl, sym, _∙_}
 use mathlib.Core.Bool.{true}
 use mathlib.Core.List.{List, [], _∷_}
 use Prim.Native.Nat.{ℕ, _*_, _≤_}
 use native.Mathlib.Nat.{mul-le-mul-left}
 use native.Mathlib.Omega.{arith}
-use lib.Dec.{leb}
 use lib.IntN.{ℤ}
 use borrow.Author.Tests.{le-leb, leb-true}
-use Rattle.geometry.specs.Lists.{every}
 use Rattle.geometry.specs.Mark.{mostLength}
 use Rattle.geometry.specs.Strip.{Strip, marksOfLists, marksOf}
 use Rattle.geometry.specs.Placing.{firstPlacing}
-use Rattle.geometry.proofs.Split.{both, and-fst, and-snd}
 use Rattle.geometry.proofs.Shorter.{AllShorter, placing-shorter}
 use Rattle.largest.specs.Widths.{lengthsAt, stripAt, noneOver, placingAt, fitsAt}
+use Rattle.largest.specs.inner.Cells.{mostOf}
+use Rattle.largest.proofs.MostCells.{most-decides}
 use Rattle.largest.proofs.FullAtWidth.{is-there, there-within}
 
 module _ (v w : ℕ) (less : v ≤ w) where
@@ -23,14 +22,11 @@ module _ (v w : ℕ) (less : v ≤ w) where
   shorter : (c : ℕ) → c * v ≤ c * w
   shorter c = mul-le-mul-left c less
 
+  -- and so the greatest count, which decides whether a length is over 240
   within-smaller : (cells : List ℕ) → noneOver w cells ≡ true → noneOver v cells ≡ true
-  unfolding every
-  within-smaller [] e = refl
-  within-smaller (c ∷ cells) e =
-      let here = leb (c * w) mostLength in
-      let within = leb-true (c * w) mostLength (and-fst here (noneOver w cells) e) in
-      both (leb (c * v) mostLength) _ (le-leb (c * v) mostLength (omega (arith, shorter c)))
-      (within-smaller cells (and-snd here (noneOver w cells) e))
+  within-smaller cells e =
+      let within = leb-true (mostOf cells * w) mostLength (most-decides cells w ∙ e) in
+      sym (most-decides cells v) ∙ le-leb (mostOf cells * v) mostLength (omega (arith, shorter (mostOf cells)))
 
   marks-shorter : (zs : List ℤ) (cells ws : List ℕ) → AllShorter (marksOfLists zs (lengthsAt v cells) ws) (marksOfLists zs (lengthsAt w cells) ws)
   unfolding marksOfLists

@@ -7,7 +7,7 @@ use agreed::tally;
 // What stands in the work area before a call, which has elements behind its named part.
 const USED: i16 = 7;
 
-pub const BEHIND: usize = 8;
+const BEHIND: usize = 8;
 
 pub const WHOLE: usize = full::WORK_NAMED + BEHIND;
 
