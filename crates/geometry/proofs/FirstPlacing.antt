@@ -33,6 +33,7 @@ first-before p (y ∷ xs) c x e m passes =
     (λ _ q h. inr (⊎_elim (λ k. clash passes (ap p k ∙ q)) (λ k. first-before p xs c x h k passes) m))
     refl
     e
+first-before {A = A} p [] c x e m passes = elim m [ ]
 
 -- two elements of a list in two parts: both in the first, one in each, or both in the second
 before-append : {A : Type 0} (c x : A) (xs ys : List A) → AtOrBefore c x (xs ++ ys)
@@ -59,6 +60,7 @@ same_first a c x (v ∷ words) (inl b) =
 same_first a c x (v ∷ words) (inr b) =
     let r = same_first a c x words b in
     record { c-rest = r.c-rest; x-rest = r.x-rest; c-is = r.c-is; x-is = r.x-is; in_order = inr r.in_order }
+same_first a c x [] x'' = elim x'' [ ]
 
 -- each letter has a lower rank than those behind it
 abbrev BelowAll : Position → List Position → Type 0
@@ -87,6 +89,7 @@ module _ (words : List (List Position)) (sorted : (c x : List Position) → AtOr
       same-order r.1 t.is (inl (rise.0 t.letter t.letter-in)))
       (prefixed-sorted letters rise.1 c x))
       (before-append c x (map (λ w. a ∷ w) words) (prefixed letters words) b)
+  prefixed-sorted [] rise c x b = elim b [ ]
 
 -- 2, 3, 1, 4 is the order by rank
 ranks-rise : RanksRise ranked
@@ -103,6 +106,7 @@ words-sorted : (n : ℕ) (c x : List Position) → AtOrBefore c x (words_of rank
 unfolding words_of
 words-sorted zero c x (inl b) = ⊎_elim (λ (e : x ≡ []). rw (b.0, e) tt) (λ k. absurd k) b.1
 words-sorted (suc n) c x b = prefixed-sorted (words_of ranked n) (words-sorted n) ranked ranks-rise c x b
+words-sorted zero c x (inr x4) = elim x4 [ ]
 
 -- "Of all placings it is the first"
 pub found-is-first : (g : ℕ) (ms : List Mark) (ps qs : List Position) → first_placing g ms ≡ some ps → IsPlacing g ms qs → NotAfter ps qs

@@ -24,6 +24,7 @@ module _ {A : Type 0} (p : A → Bool) where
   unfolding every
   every-passes (y ∷ xs) x e (inl q) = ap p q ∙ and-fst (p y) (every p xs) e
   every-passes (y ∷ xs) x e (inr m) = every-passes xs x (and-snd (p y) (every p xs) e) m
+  every-passes [] x e x4 = elim x4 [ ]
 
   -- a listed element that fails
   pub record Failing (xs : List A) : Type 0 where
@@ -45,3 +46,4 @@ module _ {A : Type 0} (p : A → Bool) where
   unfolding any_of
   any-of-member (y ∷ xs) x (inl q) e = or_left (p y) (any_of p xs) (sym (ap p q) ∙ e)
   any-of-member (y ∷ xs) x (inr m) e = or_right (p y) (any_of p xs) (any-of-member xs x m e)
+  any-of-member [] x x4 e = elim x4 [ ]

@@ -136,6 +136,7 @@ module _ {A : Type 0} (f : A → Pair) (kind : A → Direction) where
   listed-pair : (xs : List A) (y : A) → Member y xs → Member (f y) (map f xs)
   listed-pair (x ∷ xs) y (inl e) = inl (ap f e)
   listed-pair (x ∷ xs) y (inr m) = inr (listed-pair xs y m)
+  listed-pair [] y x' = elim x' [ ]
 
   -- if elements of one kind have one pair, there are no more pairs than kinds
   few-pairs : (xs : List A) → ((x y : A) → Member x xs → Member y xs → kind x ≡ kind y → f x ≡ f y)

@@ -129,6 +129,11 @@ module _ (g n : ℕ) (some : 1 ≤ n) where
     allowed-high z l 0 (first_good place_in_range_lem z zs p) (first_good length_in_range_lem l ls q) e a.0,
     placing-high zs ls ss es (rest-good place_in_range_lem z zs p) (rest-good length_in_range_lem l ls q) a.2,
   )
+  placing-high [] ls [] (e ∷ es) p q a = elim a [ ]
+  placing-high [] ls (s ∷ ss) es p q a = elim a [ ]
+  placing-high (z ∷ zs) [] ss es p q a = elim a [ ]
+  placing-high (z ∷ zs) (l ∷ ls) [] es p q a = elim a [ ]
+  placing-high (z ∷ zs) (l ∷ ls) (s ∷ ss) [] p q a = elim a [ ]
 
   -- and each mark's edge is allowed and apart from those behind it
   placing-parts : (zs : List ℤ) (ls ws : List ℕ) (ss : List Side) (es : List ℤ) → length zs ≡ length ls → length zs ≡ length ws
@@ -146,6 +151,11 @@ module _ (g n : ℕ) (some : 1 ≤ n) where
         apart_parts z l w s e (allowed-high z l w here short e a.0) zs ls ws ss es (placing-high zs ls ss es behind-good behind-short a.2) a.1,
         placing-parts zs ls ws ss es (omega arith) (omega arith) behind-good behind-short a.2,
       )
+  placing-parts [] ls ws [] (e ∷ es) p q r t a = elim a [ ]
+  placing-parts [] ls ws (s ∷ ss) es p q r t a = elim a [ ]
+  placing-parts (z ∷ zs) [] ws ss es p q r t a = elim a [ ]
+  placing-parts (z ∷ zs) (l ∷ ls) (w ∷ ws) [] es p q r t a = elim a [ ]
+  placing-parts (z ∷ zs) (l ∷ ls) (w ∷ ws) (s ∷ ss) [] p q r t a = elim a [ ]
 
   -- and the other way round
   parts-all-high : (zs : List ℤ) (ls ws : List ℕ) (ss : List Side) (es : List ℤ) → length zs ≡ length ls → length zs ≡ length ws
@@ -158,6 +168,10 @@ module _ (g n : ℕ) (some : 1 ≤ n) where
     parts-high z l w (first_good place_in_range_lem z zs r) (first_good length_in_range_lem l ls t) e a.0,
     parts-all-high zs ls ws ss es (omega arith) (omega arith) (rest-good place_in_range_lem z zs r) (rest-good length_in_range_lem l ls t) a.2,
   )
+  parts-all-high [] ls ws [] (e ∷ es) p q r t a = elim a [ ]
+  parts-all-high [] ls ws (s ∷ ss) es p q r t a = elim a [ ]
+  parts-all-high (z ∷ zs) (l ∷ ls) (w ∷ ws) [] es p q r t a = elim a [ ]
+  parts-all-high (z ∷ zs) (l ∷ ls) (w ∷ ws) (s ∷ ss) [] p q r t a = elim a [ ]
 
   -- and each mark's edge is allowed and apart from those behind it
   parts-placing : (zs : List ℤ) (ls ws : List ℕ) (ss : List Side) (es : List ℤ) → length zs ≡ length ls → length zs ≡ length ws
@@ -177,6 +191,10 @@ module _ (g n : ℕ) (some : 1 ≤ n) where
         parts-apart z l w s e (parts-high z l w here short e a.0) zs ls ws ss es (omega arith) (omega arith) high a.1,
         parts-placing zs ls ws ss es (omega arith) (omega arith) behind-good behind-short a.2,
       )
+  parts-placing [] ls ws [] (e ∷ es) p q r t a = elim a [ ]
+  parts-placing [] ls ws (s ∷ ss) es p q r t a = elim a [ ]
+  parts-placing (z ∷ zs) (l ∷ ls) (w ∷ ws) [] es p q r t a = elim a [ ]
+  parts-placing (z ∷ zs) (l ∷ ls) (w ∷ ws) (s ∷ ss) [] p q r t a = elim a [ ]
 
   -- every number of parts is that of an edge
   parts-of-sub : (e : ℕ) → parts (sub_ℕ e (n * 32768)) ≡ e

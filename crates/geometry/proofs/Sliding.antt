@@ -108,7 +108,7 @@ leftmost-from g n a b (m ∷ ms) (s ∷ ss) (e ∷ es) pos rise past placed =
     let x : ℕ = leftmost_edge m (own_reach s a b) in
     let first : n * x ≤ e = max-scaled n (own_reach s a b) (m.place - m.label_length) e past.0 placed.0.not_left in (
       first,
-      leftmost-from g n _ _ ms ss es pos (rising-rest m ms rise)
+      leftmost-from g n (above_after s (x + (m.label_length + g)) a) (below_after s (x + (m.label_length + g)) b) ms ss es pos (rising-rest m ms rise)
           (past-label g n m s e (x + (m.label_length + g)) a b ms ss es pos placed.0.not_right (omega (arith, mul-add n x (m.label_length + g)))
           (later m ms rise) past.1 placed.1 placed.2)
           placed.2,
@@ -125,7 +125,7 @@ past-empty g n (m ∷ ms) (s ∷ ss) [] rise placed = absurd placed
 past-empty g n (m ∷ ms) (s ∷ ss) (e ∷ es) rise placed =
     let short : m.label_length < m.place = rising-first m ms rise in
     let h : n * 1 ≤ n * (m.place - m.label_length) = mul-le-mul_left n (omega arith) in
-    let own : own_reach s empty_reach empty_reach ≡ empty_reach = elim s [ above ↦ refl | below ↦ refl ] in
+    let own : own_reach s empty_reach empty_reach ≡ empty_reach = elim s as (λ t. own_reach t empty_reach empty_reach ≡ empty_reach) [ above ↦ refl | below ↦ refl ] in
     (rw own (omega (arith, placed.0.not_left)), past-empty g n ms ss es (rising-rest m ms rise) placed.2)
 
 -- The leftmost edges for the same sides, times n, are at most the edges of any placing at denominator n.

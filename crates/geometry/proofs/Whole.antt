@@ -82,6 +82,7 @@ ranked-labelled p (inl e) = ap labelled e
 ranked-labelled p (inr (inl e)) = ap labelled e
 ranked-labelled p (inr (inr (inl e))) = ap labelled e
 ranked-labelled p (inr (inr (inr (inl e)))) = ap labelled e
+ranked-labelled p (inr (inr (inr (inr x4)))) = elim x4 [ ]
 
 pub spelled-labelled : (c : List Position) → Spelled ranked c → all_labelled c ≡ true
 unfolding all_labelled
@@ -107,6 +108,9 @@ heavy-lists : (zs : List ℤ) (ls ws : List ℕ) → every weight_in_range_lem w
 unfolding marks_of_lists
 heavy-lists (z ∷ zs) (l ∷ ls) (w ∷ ws) e m (inl k) = rw k (one-to most_weight w (first_good weight_in_range_lem w ws e)).0
 heavy-lists (z ∷ zs) (l ∷ ls) (w ∷ ws) e m (inr h) = heavy-lists zs ls ws (rest-good weight_in_range_lem w ws e) m h
+heavy-lists [] ls ws e m x'' = elim x'' [ ]
+heavy-lists (z ∷ zs) [] ws e m x5 = elim x5 [ ]
+heavy-lists (z ∷ zs) (l ∷ ls) [] e m x8 = elim x8 [ ]
 
 -- every weight of the list is in its range, so every mark weighs at least 1
 pub heavy-marks : (s : Strip) → every weight_in_range_lem s.weights ≡ true → (m : Mark) → Member m (marks_of s) → 1 ≤ m.weight

@@ -40,7 +40,8 @@ apart-behind g m s e a b [] ss h = tt
 apart-behind g m s e a b (k ∷ ms) [] h = tt
 apart-behind g m s e a b (k ∷ ms) (t ∷ ss) h = (
   behind,
-  apart-behind g m s e _ _ ms ss (omega (arith, reach-grows t s k g a b)),
+  (let x : ℕ = leftmost_edge k (own_reach t a b) + (k.label_length + g) in
+      apart-behind g m s e (above_after t x a) (below_after t x b) ms ss (omega (arith, reach-grows t s k g a b))),
 )
   where
     behind : s ≡ t → EdgesApart g 1 m e k (leftmost_edge k (own_reach t a b))
@@ -58,7 +59,8 @@ placing-from g a b (m ∷ ms) (s ∷ ss) long e =
     let right : x ≤ m.place = leb-true x m.place (and-fst _ _ e) in (
       record { not_left = omega arith; not_right = omega arith },
       apart-behind g m s x _ _ ms ss (rw (own-after s (x + (m.label_length + g)) a b) (omega arith)),
-      placing-from g _ _ ms ss (omega arith) (and-snd (leb x m.place) _ e),
+      placing-from g (above_after s (x + (m.label_length + g)) a) (below_after s (x + (m.label_length + g)) b) ms ss (omega arith)
+          (and-snd (leb x m.place) _ e),
     )
 
 -- Leftmost edges of which none is beyond its mark are a placing.

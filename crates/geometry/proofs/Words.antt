@@ -31,6 +31,7 @@ member-at d (x ∷ xs) (suc i) h = inr (member-at d xs i (omega arith))
 member-left : {A : Type 0} (x : A) (xs ys : List A) → Member x xs → Member x (xs ++ ys)
 member-left x (y ∷ xs) ys (inl e) = inl e
 member-left x (y ∷ xs) ys (inr m) = inr (member-left x xs ys m)
+member-left {A = A} x [] ys x'' = elim x'' [ ]
 
 pub member_right : {A : Type 0} (x : A) (xs ys : List A) → Member x ys → Member x (xs ++ ys)
 member_right x [] ys m = m
@@ -46,11 +47,13 @@ module _ {A : Type 0} where
   member-prefix : (a : A) (w : List A) (words : List (List A)) → Member w words → Member (a ∷ w) (map (λ v. a ∷ v) words)
   member-prefix a w (v ∷ words) (inl e) = inl (ap (λ (u : List A). a ∷ u) e)
   member-prefix a w (v ∷ words) (inr m) = inr (member-prefix a w words m)
+  member-prefix a w [] x' = elim x' [ ]
 
   -- a word that begins with a
   pub prefix-of : (a : A) (v : List A) (words : List (List A)) → Member v (map (λ u. a ∷ u) words) → (w : List A) × (v ≡ a ∷ w) × Member w words
   prefix-of a v (u ∷ words) (inl e) = (u, e, inl refl)
   prefix-of a v (u ∷ words) (inr m) = let r = prefix-of a v words m in (r.0, r.1, inr r.2)
+  prefix-of a v [] x' = elim x' [ ]
 
   -- each letter in front of each word
   member-prefixed : (a : A) (w : List A) (letters : List A) (words : List (List A)) → Member a letters → Member w words
@@ -60,6 +63,7 @@ module _ {A : Type 0} where
       rw e (member-left (b ∷ w) (map (λ v. b ∷ v) words) (prefixed letters words) (member-prefix b w words m))
   member-prefixed a w (b ∷ letters) words (inr k) m =
       member_right (a ∷ w) (map (λ v. b ∷ v) words) (prefixed letters words) (member-prefixed a w letters words k m)
+  member-prefixed a w [] words x'' m = elim x'' [ ]
 
   -- a letter and a word that a longer word is made of
   pub record Parts (letters : List A) (words : List (List A)) (v : List A) : Type 0 where
@@ -78,6 +82,7 @@ module _ {A : Type 0} where
       (λ k. let r = prefixed-parts v letters words k in record
       { letter = r.letter; rest = r.rest; is = r.is; letter-in = inr r.letter-in; rest_in = r.rest_in })
       (member-either v (map (λ u. b ∷ u) words) (prefixed letters words) m)
+  prefixed-parts v [] words m = elim m [ ]
 
   -- every list of n letters is among the words
   pub word-listed : (letters w : List A) → Spelled letters w → Member w (words_of letters (length w))
@@ -92,6 +97,7 @@ module _ {A : Type 0} where
   word-spelled letters (suc n) w m =
       let r = prefixed-parts w letters _ m in
       rw r.is (r.letter-in, word-spelled letters n r.rest r.rest_in)
+  word-spelled letters zero w (inr x'') = elim x'' [ ]
 
 -- something is not nothing
 pub never-none : {A : Type 0} {X : Type 0} (x : A) → some x ≡ none → X
@@ -105,6 +111,7 @@ module _ {A : Type 0} (p : A → Bool) where
       rw k (by_bool (p y) (λ t. cond t (some y) (first_of p xs) ≡ none → t ≡ false) (λ _ h. never-none y h) (λ _ h. refl) e)
   none_passes (y ∷ xs) e x (inr m) =
       by_bool (p y) (λ t. cond t (some y) (first_of p xs) ≡ none → p x ≡ false) (λ _ h. never-none y h) (λ _ h. none_passes xs h x m) e
+  none_passes [] e x x4 = elim x4 [ ]
 
   -- what it gives is an element that passes
   pub found-passes : (xs : List A) (x : A) → first_of p xs ≡ some x → Member x xs × (p x ≡ true)
@@ -125,12 +132,14 @@ module _ {A : Type 0} (p : A → Bool) where
       (λ _ _. (y, refl))
       (λ _ n. ⊎_elim (λ k. clash q (ap p k ∙ n)) (λ k. one_found xs x k q) m)
       refl
+  one_found [] x m q = elim m [ ]
 
   -- no element that passes has a greater value than `greatest_of`
   pub greatest-bounds : (f : A → ℕ) (xs : List A) (x : A) → Member x xs → p x ≡ true → f x ≤ greatest_of p f xs
   unfolding greatest_of
   greatest-bounds f (y ∷ xs) x (inl k) q = rw (k, rw k at q) (omega arith)
   greatest-bounds f (y ∷ xs) x (inr m) q = let h = greatest-bounds f xs x m q in omega arith
+  greatest-bounds f [] x x4 q = elim x4 [ ]
 
   -- an element that passes and has the value v
   pub record Attained (f : A → ℕ) (xs : List A) (v : ℕ) : Type 0 where

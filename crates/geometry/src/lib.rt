@@ -1,4 +1,6 @@
 // What the passes and the job calls share: numbers of document 01, the checks on entry, dots, and comparisons of coordinates.
+#![tactic(auto)]
+
 pub mod checks;
 pub mod dot;
 pub mod entry;

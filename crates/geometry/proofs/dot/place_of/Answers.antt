@@ -11,27 +11,26 @@ use lib.Signed.{mag}
 use Rattle.geometry.proofs.Dots.{held, fetched}
 use Rattle.geometry.specs.inner.Place.{place_of_lem}
 use Rattle.geometry.proofs.Places.{wide-held, wide_back, difference-is-place, place-mag}
-use Rattle.geometry.proofs.dot.place_of.Statement.{statement}
+use Rattle.geometry.proofs.dot.place_of.Goals as goal
+use Rattle.geometry.proofs.dot.place_of.Lts
 use Rattle.geometry.proofs.dot.place_of.Tie as tie
+use Rattle.geometry.proofs.dot.place_of.Reads as reads
 
-narrow : (c : tie.Start) → mag (place_of_lem c.args.dot) < 32768
+abbrev At-Start : Type 0
+At-Start = Lts.Start reads.Pre reads.Post
+
+narrow : (c : At-Start) → mag (place_of_lem c.args.dot) < 32768
 narrow c = place-mag c.args.dot (omega arith)
 
 -- what the difference computes
-worth : (c : tie.Start) → to_z w32 c.args.dot -ℤ pos 32768 ≡ place_of_lem c.args.dot
+worth : (c : At-Start) → to_z w32 c.args.dot -ℤ pos 32768 ≡ place_of_lem c.args.dot
 worth c = rw (to_z_pos w32 c.args.dot (omega arith)) (difference-is-place c.args.dot)
 
-cast-result : tie.Need-overflow-cast-result
-cast-result c = search rules
+pub overflow_sub-result : goal.overflow_sub-result
+overflow_sub-result c = rw (worth c) (wide-held (omega (arith, narrow c)))
 
-sub-result : tie.Need-overflow-sub-result
-sub-result c = rw (worth c) (wide-held (omega (arith, narrow c)))
+pub overflow_cast-result-2 : goal.overflow_cast-result-2
+overflow_cast-result-2 c = rw (worth c, wide_back (place_of_lem c.args.dot) (omega (arith, narrow c))) (held (narrow c))
 
-cast-result-2 : tie.Need-overflow-cast-result-2
-cast-result-2 c = rw (worth c, wide_back (place_of_lem c.args.dot) (omega (arith, narrow c))) (held (narrow c))
-
-returns : tie.Need-returns
+pub returns : goal.returns
 returns c = rw (worth c, wide_back (place_of_lem c.args.dot) (omega (arith, narrow c))) (fetched (place_of_lem c.args.dot) (narrow c))
-
-pub place-of-spec : {M : Type 1} → statement M
-place-of-spec = tie.close (tie.spec cast-result sub-result cast-result-2 returns)

@@ -1,0 +1,28 @@
+-- `geometry::entry::places_in_range` meets its contract: what the elements so far say together and what is left says is the answer.
+use mathlib.Core.Path.{◌≡◌, refl, sym, ◌∙◌, ap}
+use mathlib.Core.Bool.{◌&&◌}
+use Prim.Native.Nat.{◌≤◌, ◌-◌}
+use native.Mathlib.Omega.{arith}
+use borrow.Author.Rules.{rules}
+use lib.IntN.{pos}
+use lib.ListN.{length, get_or, drop}
+use Rattle.geometry.specs.Lists.{every}
+use Rattle.geometry.specs.Mark.{place_in_range_lem}
+use Rattle.geometry.proofs.Dots.{fetched}
+use Rattle.geometry.proofs.Every.{every-next, every-ends}
+use Rattle.geometry.proofs.entry.places_in_range.Goals as goal
+
+pub loop-i-init : goal.loop-i-init
+loop-i-init c = (omega arith, refl)
+
+pub loop-i-preserved : goal.loop-i-preserved
+loop-i-preserved c =
+    let turn = c.before.before.before in
+    let place = get_or turn.args.places.now turn.loop-i.i (pos 0) in
+    let seen = c.place_in_range-good.ensures ∙ ap place_in_range_lem (fetched place c.place_in_range-arg-1.given) in
+    (omega arith, rw seen (every-next place_in_range_lem _ (pos 0) turn.loop-i.i turn.loop-i.good turn.loop-i.invariant.1 (omega arith)))
+
+pub returns : goal.returns
+returns c =
+    let looped = c.loop-i in
+    sym (every-ends place_in_range_lem c.args.places.now (pos 0) looped.i looped.good looped.invariant.1 (omega arith))
