@@ -1,4 +1,6 @@
 // What the test programs share: how many comparisons agree and the lines that say so, short lists, and left-out lists.
+#![tactic(auto)]
+
 pub mod left_out;
 pub mod lists;
 pub mod tally;

@@ -1,6 +1,8 @@
 // How many comparisons of a group agreed so far, and the lines that it prints. A comparison that disagrees is not counted, and
 // prints a line of its own.
-use libc::STDOUT_FILENO;
+
+// The number of standard output.
+const STDOUT_FILENO: i32 = 1;
 
 // What a random strip shows of a pass: it disagrees, or agrees, or agrees and has a label for every mark.
 pub const DISAGREES: u8 = 0;
