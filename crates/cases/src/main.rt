@@ -1,5 +1,7 @@
 // A test program: document 01's strips, each boundary, jobs and listings. It prints a line for each group, and a line for each case that
 // disagrees.
+#![tactic(auto)]
+
 mod counts;
 mod crowds;
 mod ends;

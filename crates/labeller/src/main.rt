@@ -1,9 +1,15 @@
 // The listing program: a job from standard input, at most 30,000 bytes, its listing to standard output, and nothing else. A read
 // error is the end of the input.
+#![tactic(auto)]
+
 ghost use Rattle.labeller.specs.Printed.{Printed};
 
-use libc::{STDIN_FILENO, STDOUT_FILENO};
 use listing::TEXT_MOST;
+
+// The numbers of standard input and output.
+const STDIN_FILENO: i32 = 0;
+
+const STDOUT_FILENO: i32 = 1;
 
 // More than any job has, as `job-most-is` of crate job shows: what follows is not judged.
 const INPUT_MOST: usize = 30000;

@@ -1,4 +1,6 @@
 // A test program: the largest letters at each boundary. It prints a line for each group, and a line for each case that disagrees.
+#![tactic(auto)]
+
 mod call;
 mod refusals;
 mod widths;

@@ -1,4 +1,6 @@
 // The listing of a job: a library over the contracts of the job reader and the three passes.
+#![tactic(auto)]
+
 pub mod answer;
 mod lines;
 mod passes;

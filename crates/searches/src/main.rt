@@ -1,5 +1,7 @@
 // A test program: random strips, at gaps of 0 to 8 dots, against a plain search through all choices. It prints two lines for each group,
 // and a line for each strip that disagrees.
+#![tactic(auto)]
+
 mod choices;
 mod labels;
 mod leftmost;

@@ -1,5 +1,7 @@
 // A test program: texts at each boundary of the three calls on them. It prints a line for each group, and a line for each case that
 // disagrees.
+#![tactic(auto)]
+
 mod beginnings;
 mod fillings;
 mod widths;
