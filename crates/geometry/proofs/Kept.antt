@@ -3,7 +3,7 @@
 -- that passes among them. Each is an induction on the list with a case split on the test of its first element.
 use mathlib.Core.Path.{◌≡◌, refl, sym, ◌∙◌, ap}
 use mathlib.Core.Bool.{Bool, true, false, cond, ◌&&◌}
-use mathlib.Core.Logic.{◌⊎◌, inl, inr, ⊎_elim}
+use mathlib.Core.Logic.{inl, inr, ⊎_elim}
 use mathlib.Core.List.{List, [], ◌∷◌}
 use Rattle.geometry.specs.Lists.{every, any_of, keep}
 use Rattle.geometry.proofs.Split.{by_bool, and-fst, and-snd, clash, or_left, or_right}

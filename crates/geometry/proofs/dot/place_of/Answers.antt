@@ -1,7 +1,6 @@
 -- `geometry::dot::place_of` meets its contract: in 32 bits the difference is the signed one, and it fits 16 bits.
 use mathlib.Core.Path.{◌≡◌}
 use Prim.Native.Nat.{◌<◌}
-use borrow.Author.Rules.{rules}
 use native.Mathlib.Omega.{arith}
 use mir.Syntax.{w32}
 use mir.Val.{to_z}
@@ -13,7 +12,6 @@ use Rattle.geometry.specs.inner.Place.{place_of_lem}
 use Rattle.geometry.proofs.Places.{wide-held, wide_back, difference-is-place, place-mag}
 use Rattle.geometry.proofs.dot.place_of.Goals as goal
 use Rattle.geometry.proofs.dot.place_of.Lts
-use Rattle.geometry.proofs.dot.place_of.Tie as tie
 use Rattle.geometry.proofs.dot.place_of.Reads as reads
 
 abbrev At-Start : Type 0

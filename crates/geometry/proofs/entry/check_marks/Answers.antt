@@ -4,7 +4,6 @@ use mathlib.Core.Path.{◌≡◌, refl}
 use mathlib.Core.List.{List, ◌++◌}
 use native.Mathlib.Omega.{arith}
 use lib.ListN.{length}
-use borrow.Author.Rules.{rules}
 use borrow.Author.Tests.{le-leb, leb-true}
 use Rattle.geometry.specs.Strip.{Strip, strip, most_marks}
 use Rattle.geometry.specs.Refusal.{Check, lists_unequal, too_many_marks, bad_mark}

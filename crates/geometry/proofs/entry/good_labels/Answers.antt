@@ -1,6 +1,5 @@
 -- `geometry::entry::good_labels` meets its contract: the lengths decide, or the weights do.
 use mathlib.Core.Path.{sym, ◌∙◌}
-use borrow.Author.Rules.{rules}
 use Rattle.geometry.proofs.entry.good_labels.Goals as goal
 
 pub returns-then-lengths_in_range : goal.returns-then-lengths_in_range

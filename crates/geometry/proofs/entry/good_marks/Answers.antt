@@ -1,6 +1,5 @@
 -- `geometry::entry::good_marks` meets its contract: the places decide, or the labels do.
 use mathlib.Core.Path.{sym, ◌∙◌}
-use borrow.Author.Rules.{rules}
 use Rattle.geometry.proofs.entry.good_marks.Goals as goal
 
 pub returns-then-good_places : goal.returns-then-good_places

@@ -1,6 +1,5 @@
 -- `geometry::entry::good_places` meets its contract: the ranges decide, or the order does.
 use mathlib.Core.Path.{sym, ◌∙◌}
-use borrow.Author.Rules.{rules}
 use Rattle.geometry.proofs.entry.good_places.Goals as goal
 
 pub returns-then-places_in_range : goal.returns-then-places_in_range

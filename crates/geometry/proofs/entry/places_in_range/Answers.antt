@@ -1,12 +1,8 @@
 -- `geometry::entry::places_in_range` meets its contract: what the elements so far say together and what is left says is the answer.
-use mathlib.Core.Path.{◌≡◌, refl, sym, ◌∙◌, ap}
-use mathlib.Core.Bool.{◌&&◌}
-use Prim.Native.Nat.{◌≤◌, ◌-◌}
+use mathlib.Core.Path.{refl, sym, ◌∙◌, ap}
 use native.Mathlib.Omega.{arith}
-use borrow.Author.Rules.{rules}
 use lib.IntN.{pos}
-use lib.ListN.{length, get_or, drop}
-use Rattle.geometry.specs.Lists.{every}
+use lib.ListN.{get_or}
 use Rattle.geometry.specs.Mark.{place_in_range_lem}
 use Rattle.geometry.proofs.Dots.{fetched}
 use Rattle.geometry.proofs.Every.{every-next, every-ends}

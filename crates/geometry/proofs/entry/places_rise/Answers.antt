@@ -1,13 +1,10 @@
 -- `geometry::entry::places_rise` meets its contract: what the neighbours so far say together and what is left says is the answer.
-use mathlib.Core.Path.{◌≡◌, refl, sym, ◌∙◌, ap₂}
-use mathlib.Core.Bool.{◌&&◌}
-use Prim.Native.Nat.{◌<◌, ◌-◌, ◌+◌}
+use mathlib.Core.Path.{refl, sym, ◌∙◌, ap₂}
+use Prim.Native.Nat.{◌+◌}
 use native.Mathlib.Omega.{arith}
-use borrow.Author.Rules.{rules}
 use lib.IntN.{pos}
 use lib.Signed.{lt_z}
-use lib.ListN.{length, get_or, drop}
-use Rattle.geometry.specs.Mark.{rising}
+use lib.ListN.{get_or}
 use Rattle.geometry.proofs.Dots.{fetched}
 use Rattle.geometry.proofs.Every.{rising_none, rising-next, rising-ends}
 use Rattle.geometry.proofs.entry.places_rise.Goals as goal

@@ -1,11 +1,6 @@
 -- `geometry::entry::weights_in_range` meets its contract: what the elements so far say together and what is left says is the answer.
-use mathlib.Core.Path.{◌≡◌, refl, sym}
-use mathlib.Core.Bool.{◌&&◌}
-use Prim.Native.Nat.{◌≤◌, ◌-◌}
+use mathlib.Core.Path.{refl, sym}
 use native.Mathlib.Omega.{arith}
-use borrow.Author.Rules.{rules}
-use lib.ListN.{length, drop}
-use Rattle.geometry.specs.Lists.{every}
 use Rattle.geometry.specs.Mark.{weight_in_range_lem}
 use Rattle.geometry.proofs.Every.{every-next, every-ends}
 use Rattle.geometry.proofs.entry.weights_in_range.Goals as goal
