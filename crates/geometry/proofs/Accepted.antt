@@ -160,7 +160,8 @@ every-at p (x ∷ xs) d zero e h = and-fst (p x) (every p xs) e
 every-at p (x ∷ xs) d (suc i) e h = every-at p xs d i (and-snd (p x) (every p xs) e) (omega arith)
 
 -- so every weight is one of 1 to 1,000
-pub weight-at : (ws : List ℕ) (i : ℕ) → every weight_in_range_lem ws ≡ true → i < length ws → (1 ≤ get_or ws i 0) × (get_or ws i 0 ≤ most_weight)
+pub weight-at : (ws : List ℕ) (i : ℕ) → every weight_in_range_lem ws ≡ true → i < length ws
+    → (1 ≤ get_or ws i 0) × (get_or ws i 0 ≤ most_weight)
 weight-at ws i e h = one-to most_weight (get_or ws i 0) (every-at weight_in_range_lem ws 0 i e h)
 
 -- three lists of one length make as many marks
@@ -214,7 +215,8 @@ rise (z ∷ zs) [] ws p r q = tt
 rise (z ∷ zs) (l ∷ ls) [] p r q = tt
 rise (z ∷ []) (l ∷ ls) (w ∷ ws) p r q = one-mark z l (first_good place_in_range_lem z [] p) (first_good length_in_range_lem l ls q)
 rise (z ∷ y ∷ zs) (l ∷ []) (w ∷ ws) p r q = one-mark z l (first_good place_in_range_lem z (y ∷ zs) p) (first_good length_in_range_lem l [] q)
-rise (z ∷ y ∷ zs) (l ∷ k ∷ ls) (w ∷ []) p r q = one-mark z l (first_good place_in_range_lem z (y ∷ zs) p) (first_good length_in_range_lem l (k ∷ ls) q)
+rise (z ∷ y ∷ zs) (l ∷ k ∷ ls) (w ∷ []) p r q =
+    one-mark z l (first_good place_in_range_lem z (y ∷ zs) p) (first_good length_in_range_lem l (k ∷ ls) q)
 rise (z ∷ y ∷ zs) (l ∷ k ∷ ls) (w ∷ v ∷ ws) p r q =
     let here = first_good place_in_range_lem z (y ∷ zs) p in
     let behind = rest-good place_in_range_lem z (y ∷ zs) p in

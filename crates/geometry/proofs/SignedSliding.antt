@@ -122,7 +122,8 @@ module _ (g n : ℕ) (some : 1 ≤ n) where
     )
 
   -- a placing by signed edges is one by their parts: all its edges lie above −32,768
-  placing-high : (zs : List ℤ) (ls : List ℕ) (ss : List Side) (es : List ℤ) → every place_in_range_lem zs ≡ true → every length_in_range_lem ls ≡ true
+  placing-high : (zs : List ℤ) (ls : List ℕ) (ss : List Side) (es : List ℤ) → every place_in_range_lem zs ≡ true
+      → every length_in_range_lem ls ≡ true
       → SignedSliding g n zs ls ss es → AllHigh es
   placing-high [] ls [] [] p q a = tt
   placing-high (z ∷ zs) (l ∷ ls) (s ∷ ss) (e ∷ es) p q a = (
@@ -159,7 +160,8 @@ module _ (g n : ℕ) (some : 1 ≤ n) where
 
   -- and the other way round
   parts-all-high : (zs : List ℤ) (ls ws : List ℕ) (ss : List Side) (es : List ℤ) → length zs ≡ length ls → length zs ≡ length ws
-      → every place_in_range_lem zs ≡ true → every length_in_range_lem ls ≡ true → SlidingPlacing g n (marks_of_lists zs ls ws) ss (map parts es) → AllHigh es
+      → every place_in_range_lem zs ≡ true → every length_in_range_lem ls ≡ true → SlidingPlacing g n (marks_of_lists zs ls ws) ss (map parts es)
+      → AllHigh es
   unfolding marks_of_lists
   parts-all-high [] ls ws [] [] p q r t a = tt
   parts-all-high (z ∷ zs) [] ws ss es p q r t a = absurd (omega arith)

@@ -125,7 +125,8 @@ past-empty g n (m ∷ ms) (s ∷ ss) [] rise placed = absurd placed
 past-empty g n (m ∷ ms) (s ∷ ss) (e ∷ es) rise placed =
     let short : m.label_length < m.place = rising-first m ms rise in
     let h : n * 1 ≤ n * (m.place - m.label_length) = mul-le-mul_left n (omega arith) in
-    let own : own_reach s empty_reach empty_reach ≡ empty_reach = elim s as (λ t. own_reach t empty_reach empty_reach ≡ empty_reach) [ above ↦ refl | below ↦ refl ] in
+    let own : own_reach s empty_reach empty_reach ≡ empty_reach =
+    elim s as (λ t. own_reach t empty_reach empty_reach ≡ empty_reach) [ above ↦ refl | below ↦ refl ] in
     (rw own (omega (arith, placed.0.not_left)), past-empty g n ms ss es (rising-rest m ms rise) placed.2)
 
 -- The leftmost edges for the same sides, times n, are at most the edges of any placing at denominator n.

@@ -124,8 +124,8 @@ passes : Claim → Bool
 passes c = test (marks_of c.strip) c.says
 
 all_pass : every passes starred ≡ true
-unfolding every passes test same_numbers rising_test first_placing first_of words_of prefixed free apart marks_of_lists slides_whole any_of none_beyond edges_from
-    best_sum greatest_of sum_of left_out_from unbeaten_count distinct keep unbeaten part_layouts reach
+unfolding every passes test same_numbers rising_test first_placing first_of words_of prefixed free apart marks_of_lists slides_whole any_of none_beyond
+    edges_from best_sum greatest_of sum_of left_out_from unbeaten_count distinct keep unbeaten part_layouts reach
 all_pass = refl
 
 -- Every claim of every case marked * holds.

@@ -143,7 +143,8 @@ part-first t c cs needs = after-part t c.passes c.otherwise (first_failure cs) n
 
 -- the number of the check that a count is at most so many, from a test that holds exactly where it is
 pub count-number : (n m : ℕ) (r : Refusal) {passes : Bool} {otherwise number : ℕ} → CheckNumber passes otherwise number
-    → (passes ≡ true → n ≤ m) × (n ≤ m → passes ≡ true) × (otherwise ≡ refusal_number r) → number ≡ number_of_checks (at_most n m r ∷ [])
+    → (passes ≡ true → n ≤ m) × (n ≤ m → passes ≡ true) × (otherwise ≡ refusal_number r)
+    → number ≡ number_of_checks (at_most n m r ∷ [])
 count-number n m r check (so, only_so, is) = check (leb n m) r (is-leb n m (so, only_so)) is
 
 -- whether a check's refusal is another than 11

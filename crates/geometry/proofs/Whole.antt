@@ -104,7 +104,8 @@ found-placing g ms c e =
     record { is_free = r.1; labels-all = spelled-labelled c (word-spelled ranked (length ms) c r.0) }
 
 -- the marks of three lists weigh what the weight list says
-heavy-lists : (zs : List ℤ) (ls ws : List ℕ) → every weight_in_range_lem ws ≡ true → (m : Mark) → Member m (marks_of_lists zs ls ws) → 1 ≤ m.weight
+heavy-lists : (zs : List ℤ) (ls ws : List ℕ) → every weight_in_range_lem ws ≡ true → (m : Mark) → Member m (marks_of_lists zs ls ws)
+    → 1 ≤ m.weight
 unfolding marks_of_lists
 heavy-lists (z ∷ zs) (l ∷ ls) (w ∷ ws) e m (inl k) = rw k (one-to most_weight w (first_good weight_in_range_lem w ws e)).0
 heavy-lists (z ∷ zs) (l ∷ ls) (w ∷ ws) e m (inr h) = heavy-lists zs ls ws (rest-good weight_in_range_lem w ws e) m h

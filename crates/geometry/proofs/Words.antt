@@ -157,7 +157,8 @@ module _ {A : Type 0} (p : A → Bool) where
   unfolding greatest_of
   attained-or-zero f [] = inl refl
   attained-or-zero f (y ∷ xs) =
-      by_bool (p y) (λ t. p y ≡ t → (max (cond t (f y) 0) (greatest_of p f xs) ≡ 0) ⊎ Attained f (y ∷ xs) (max (cond t (f y) 0) (greatest_of p f xs)))
+      by_bool (p y)
+      (λ t. p y ≡ t → (max (cond t (f y) 0) (greatest_of p f xs) ≡ 0) ⊎ Attained f (y ∷ xs) (max (cond t (f y) 0) (greatest_of p f xs)))
       (λ _ q.
       ⊎_elim
       (λ h. ⊎_elim

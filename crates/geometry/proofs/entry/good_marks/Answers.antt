@@ -3,7 +3,7 @@ use mathlib.Core.Path.{sym, ◌∙◌}
 use Rattle.geometry.proofs.entry.good_marks.Goals as goal
 
 pub returns-then-good_places : goal.returns-then-good_places
-returns-then-good_places c = rw (sym c.before.before.good_places.ensures ∙ c.before.if-good_places.true) c.good_labels.ensures
+returns-then-good_places c = rw (sym c.good_places.ensures ∙ c.if-good_places.true) c.good_labels.ensures
 
 pub returns-else-good_places : goal.returns-else-good_places
-returns-else-good_places c = rw (sym c.before.good_places.ensures ∙ c.if-good_places.false) c.if-good_places.false
+returns-else-good_places c = rw (sym c.good_places.ensures ∙ c.if-good_places.false) c.if-good_places.false

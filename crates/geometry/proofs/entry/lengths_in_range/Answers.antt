@@ -10,8 +10,7 @@ loop-i-init c = (omega arith, refl)
 
 pub loop-i-preserved : goal.loop-i-preserved
 loop-i-preserved c =
-    let turn = c.before.before.before.before in
-    (omega arith, rw c.length_in_range-good.ensures (every-next length_in_range_lem _ 0 turn.loop-i.i turn.loop-i.good turn.loop-i.invariant.1 (omega arith)))
+    (omega arith, rw c.length_in_range-good.ensures (every-next length_in_range_lem _ 0 c.loop-i.i c.loop-i.good c.loop-i.invariant.1 (omega arith)))
 
 pub returns : goal.returns
 returns c =

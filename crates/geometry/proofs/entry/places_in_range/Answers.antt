@@ -13,10 +13,9 @@ loop-i-init c = (omega arith, refl)
 
 pub loop-i-preserved : goal.loop-i-preserved
 loop-i-preserved c =
-    let turn = c.before.before.before in
-    let place = get_or turn.args.places.now turn.loop-i.i (pos 0) in
+    let place = get_or c.args.places.now c.loop-i.i (pos 0) in
     let seen = c.place_in_range-good.ensures ∙ ap place_in_range_lem (fetched place c.place_in_range-arg-1.given) in
-    (omega arith, rw seen (every-next place_in_range_lem _ (pos 0) turn.loop-i.i turn.loop-i.good turn.loop-i.invariant.1 (omega arith)))
+    (omega arith, rw seen (every-next place_in_range_lem _ (pos 0) c.loop-i.i c.loop-i.good c.loop-i.invariant.1 (omega arith)))
 
 pub returns : goal.returns
 returns c =

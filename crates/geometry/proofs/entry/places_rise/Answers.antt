@@ -8,12 +8,6 @@ use lib.ListN.{get_or}
 use Rattle.geometry.proofs.Dots.{fetched}
 use Rattle.geometry.proofs.Every.{rising_none, rising-next, rising-ends}
 use Rattle.geometry.proofs.entry.places_rise.Goals as goal
-use Rattle.geometry.proofs.entry.places_rise.Lts
-use Rattle.geometry.proofs.entry.places_rise.Tie as tie
-use Rattle.geometry.proofs.entry.places_rise.Reads as reads
-
-abbrev At-loop-i : Type 0
-At-loop-i = Lts.At-loop tie.the-claims reads.Pre reads.Post goal.the-invariant-loop-i goal.the-decreases-loop-i
 
 pub returns-then-places-eq0 : goal.returns-then-places-eq0
 returns-then-places-eq0 c = sym (rising_none _ c.if-places-eq0.true)
@@ -23,12 +17,13 @@ loop-i-init c = (omega arith, refl)
 
 pub loop-i-preserved : goal.loop-i-preserved
 loop-i-preserved c =
-    let turn : At-loop-i = let inside = c.before.before.before in inside.before in
-    let places = turn.args.places.now in
-    let here = turn.loop-i.i in
+    let places = c.args.places.now in
+    let here = c.loop-i.i in
     let first = fetched (get_or places here (pos 0)) c.rises-arg-1.given in
-    let second = fetched (get_or places (here + 1) (pos 0)) c.rises-arg-in-loop-i-1.given in
-    (omega arith, rw (c.rises-good.ensures ∙ ap₂ lt_z first second) (rising-next places (pos 0) here turn.loop-i.good turn.loop-i.invariant.1 (omega arith)))
+    let second = fetched (get_or places (here + 1) (pos 0)) c.rises-arg-in-loop-i-1.given in (
+      omega arith,
+      rw (c.rises-good.ensures ∙ ap₂ lt_z first second) (rising-next places (pos 0) here c.loop-i.good c.loop-i.invariant.1 (omega arith)),
+    )
 
 pub returns : goal.returns
 returns c =
