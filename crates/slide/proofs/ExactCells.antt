@@ -45,7 +45,7 @@ room_within g t [] inside = omega arith
 room_within g t (m ∷ ms) inside =
     let cells : ℕ → ℕ = cells_of g m ms in
     let own : own_side_lem m t cells ≤ no_bound =
-    by-leb t m.place (λ c. cond c (cells (slid_by m t)) 0 ≤ no_bound) (λ _. room_within g _ ms inside.1) (λ _. omega arith) in
+    by-leb t m.place (λ c. cond c (cells (slid_by m t)) 0 ≤ no_bound) (λ _. room_within g (reach_at g m (slid_by m t)) ms inside.1) (λ _. omega arith) in
     let other : other_side_lem m (furthest cells t (suc m.label_length)) ≤ suc m.place =
     other-within m _ inside.0.left (furthest-within cells t (suc m.label_length)) in
     omega (arith, inside.0.right)

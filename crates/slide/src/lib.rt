@@ -1,4 +1,6 @@
 // The slide pass: every mark gets a label that lies above or below the line and slides along it.
+#![tactic(auto)]
+
 mod table;
 mod walk;
 mod work;

@@ -2,6 +2,7 @@
 // greatest reach of the other side with which the marks after it can all be placed. A cell holds 0 for none, else one more than that
 // reach's dot. A side reaches as far as its last label and the gap behind it, so the gap is in every reach and in no test.
 ghost use Rattle.std.specs.Prelude.{◌≡◌, ◌||◌, ◌+◌, ◌≤◌, ◌<◌, ltb, eqb, length, get_or};
+ghost use Rattle.std.specs.Prelude.{length as list_length};
 ghost use Rattle.geometry.specs.Dot.{empty_reach};
 ghost use Rattle.geometry.specs.Pass.{most_gap};
 ghost use Rattle.geometry.specs.inner.Outside.{no_bound};
@@ -46,7 +47,7 @@ fn furthest_slide(work: &[u16], row: usize, reach: u16, count: usize) -> usize
 
 // The cell of a label on the side of the reach, or 0 where the reach is beyond its mark.
 pub fn own_side(work: &[u16], row: usize, place: u16, length: u8, reach: u16) -> u16
-    requires* { do ⌜ (length < place) × (row + length < (← ⟦work.len()⟧)) ⌝ }
+    requires { (length < place) × (row + length < list_length work.now) }
     ensures { result ≡ own_side_lem (plain_mark place length) reach (row_from work.now row) }
 {
     if place < reach {
