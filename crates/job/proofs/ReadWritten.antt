@@ -22,7 +22,7 @@ use Rattle.geometry.proofs.Places.{place-of-dot, place-step, place-above, place-
 use Rattle.job.specs.Number.{Bytes}
 use Rattle.job.specs.Outcome.{Outcome, given, and_then}
 use Rattle.job.specs.Format.{most_step, absent_step, step_field, length_field, weight_field, bit_stands, stray_bits}
-use Rattle.job.specs.Decode.{Front, front, place_after, decode_place, SignedMark}
+use Rattle.job.specs.Decode.{Front, place_after, decode_place, SignedMark}
 use Rattle.job.specs.Decode.{decode_label, has_stray_bit_lem, decode_record, decode_records}
 use Rattle.job.specs.Encode.{encode_bit, encode_field, encode_map, encode_record, step_to, encode_records}
 use Rattle.job.proofs.Outcomes.{checked-given, then-given}

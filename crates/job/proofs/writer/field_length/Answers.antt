@@ -4,18 +4,14 @@ use native.Mathlib.Omega.{arith}
 use Rattle.job.specs.inner.Step.{row}
 use Rattle.job.proofs.Numbers.{bytes-length}
 use Rattle.job.proofs.RecordBytes.{field-none, field-some}
-use Rattle.job.proofs.writer.field_length.Statement.{statement}
-use Rattle.job.proofs.writer.field_length.Tie as tie
+use Rattle.job.proofs.writer.field_length.Goals as goal
 
-returns : tie.Need-returns
-returns c =
-    let a = c.before.args in
+pub returns-then-value-absent : goal.returns-then-value-absent
+returns-then-value-absent c =
+    let a = c.args in
     (rw (field-none (row a.width a.absent 0) a.value (omega arith)) refl, omega arith)
 
-returns-2 : tie.Need-returns-2
-returns-2 c =
-    let a = c.before.args in
+pub returns-else-value-absent : goal.returns-else-value-absent
+returns-else-value-absent c =
+    let a = c.args in
     (rw (field-some (row a.width a.absent 0) a.value (omega arith)) (sym (bytes-length a.width a.value)), omega arith)
-
-pub field-length-spec : {M : Type 1} → statement M
-field-length-spec = tie.close (tie.spec returns returns-2)
