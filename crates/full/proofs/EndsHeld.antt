@@ -77,7 +77,12 @@ mark-formed places lengths g work ready k few =
       gap-narrow = ready.gap-narrow;
     }
 
--- 16 bits hold a number whose dot is a reach's
+-- 16 bits hold a number whose dot is a left edge's
+edge-mag : (z : ℤ) → LeftEdge (dot z) → mag z < 32768
+edge-mag (pos n) h = omega arith
+edge-mag (negsuc n) h = omega arith
+
+-- and one whose dot is a reach's
 carried-mag : (z : ℤ) → Carried (dot z) → mag z < 32768
 carried-mag (pos n) (is_reach h) = omega arith
 carried-mag (negsuc n) (is_reach h) = omega arith
@@ -90,3 +95,6 @@ carried-back z c = fetched z (carried-mag z c)
 
 pub reach-back : (z : ℤ) → Reach (dot z) → to_z w16 (of_z w16 z) ≡ z
 reach-back z h = carried-back z (is_reach h)
+
+pub edge-back : (z : ℤ) → LeftEdge (dot z) → to_z w16 (of_z w16 z) ≡ z
+edge-back z h = fetched z (edge-mag z h)

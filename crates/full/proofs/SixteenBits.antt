@@ -60,7 +60,8 @@ greatest-stored : (g t : ℕ) (ms : List Mark) → Each (EndsHeld g) ms → Stor
 unfolding greatest
 greatest-stored g t [] h = is_unbounded refl
 greatest-stored g t (m ∷ ms) h =
-    candidates-stored t _ _ _ _ (h.0.left-edge leftward) (h.0.left-edge rightward) (greatest-stored g _ ms h.1) (greatest-stored g _ ms h.1)
+    candidates-stored t _ _ _ _ (h.0.left-edge leftward) (h.0.left-edge rightward)
+    (greatest-stored g (right_end m leftward + g) ms h.1) (greatest-stored g (right_end m rightward + g) ms h.1)
 
 pub row-stored : (g : ℕ) (m : Mark) (ms : List Mark) → Each (EndsHeld g) ms → Each Stored (row_of g m ms)
 row-stored g m ms h =
@@ -80,7 +81,9 @@ walk-carried : (g a b : ℕ) (ms : List Mark) → Each (EndsHeld g) ms → Carri
 unfolding steps
 walk-carried g a b [] h ca cb = tt
 walk-carried g a b (m ∷ ms) h ca cb =
-    let next = next-carried g a b m (pick g a b m ms) h.0 ca cb in (next, walk-carried g _ _ ms h.1 next.0 next.1)
+    let p = pick g a b m ms in
+    let next = next-carried g a b m p h.0 ca cb in
+    (next, walk-carried g (next_above g a m p) (next_below g b m p) ms h.1 next.0 next.1)
 
 -- where a number of the pass lies among those of 16 bits
 stored-bits : (d : ℕ) → Stored d → Between least_signed most_signed d

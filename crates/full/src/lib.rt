@@ -4,6 +4,8 @@
 // all later marks can still be placed; one walk from the left then takes at each mark the first position that the table
 // allows. One step a mark in each direction, and no step looks at more than one row. Every coordinate is a signed 16-bit number, in a
 // range that specs/inner/SixteenBits.antt states.
+#![tactic(auto)]
+
 mod ends;
 mod kept;
 mod passed;

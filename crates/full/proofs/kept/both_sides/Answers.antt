@@ -1,0 +1,21 @@
+-- `full::kept::both_sides` meets its contract: a number that went through 16 bits is itself, and twice two counts are the count of four.
+use mathlib.Core.Path.{refl}
+use native.Mathlib.Omega.{arith}
+use Rattle.geometry.proofs.Dots.{back}
+use Rattle.full.specs.inner.Row.{count_of}
+use Rattle.full.proofs.kept.both_sides.Goals as goal
+
+pub returns : goal.returns
+unfolding count_of
+returns c =
+    let left = back c.ranges.left in
+    let right = back c.ranges.right in
+    let left-counted = rw left at c.one_if_kept.ensures.0 in
+    let right-counted = rw right at c.one_if_kept-2.ensures.0 in
+    let left-held = c.requires.0 in
+    let right-held = c.requires.1 in
+    record {
+      reaches-are = rw (left, right) refl;
+      reaches-held = rw (left, right) (left-held, (left-held, (right-held, (right-held, tt))));
+      count-is = rw (left-counted, right-counted) (omega arith);
+    }
