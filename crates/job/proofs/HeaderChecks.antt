@@ -25,7 +25,8 @@ unfolding decode_header
 header-short bs h = rw (lt-leb header_length (length bs) h) refl
 
 -- from the two values as they were read: refusal 4, or the header
-module _ (bs : List ℕ) (count d : ℕ) (whole : header_length ≤ length bs) (counted : header_count bs ≡ count) (placed : header_place bs ≡ place_of_lem d) where
+module _ (bs : List ℕ) (count d : ℕ) (whole : header_length ≤ length bs) (counted : header_count bs ≡ count)
+    (placed : header_place bs ≡ place_of_lem d) where
   pub header-out : header_in_range_lem count (place_of_lem d) ≡ false → decode_header bs ≡ refusal out_of_range
   unfolding decode_header
   header-out t = rw (le-leb header_length (length bs) whole, counted, placed, t) refl

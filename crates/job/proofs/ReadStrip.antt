@@ -99,7 +99,8 @@ pub record WrittenJob (s : Strip) (entry_job exit : List ℕ) (r : Written) : Ty
   pub within : r.length ≤ length exit
 
 -- from the contract of the writer, where the number is 0
-pub written-job : (s : Strip) (entry_job exit : List ℕ) (r : Written) → WriteContract s entry_job exit r → r.number ≡ 0 → WrittenJob s entry_job exit r
+pub written-job : (s : Strip) (entry_job exit : List ℕ) (r : Written) → WriteContract s entry_job exit r → r.number ≡ 0
+    → WrittenJob s entry_job exit r
 written-job s entry_job exit r call zero =
     let g = number-given r.number (job_for (length entry_job) s) call.number_is zero in
     let count : r.length ≡ length g.value = rw g.is at call.length-is in

@@ -74,7 +74,8 @@ record RecordBack (first : Bool) (z : ℤ) (bs : List ℕ) (x : Front SignedMark
   tail : Bytes x.rest
 
 -- from the parts of a record: its map byte, its place, its length and weight
-module _ (first : Bool) (z : ℤ) (map : ℕ) (bs : List ℕ) (pz : place_in_range_lem z ≡ true) (byte : map < 256) (calm : has_stray_bit_lem first map ≡ false)
+module _ (first : Bool) (z : ℤ) (map : ℕ) (bs : List ℕ) (pz : place_in_range_lem z ≡ true) (byte : map < 256)
+    (calm : has_stray_bit_lem first map ≡ false)
     (p : Front ℤ) (place : PlaceBack first z map bs p) (x : Front SignedMark)
     (label : LabelBack (place_after first z place.step.value) map place.step.rest x) where
   -- the three values that were read

@@ -78,7 +78,8 @@ module _
     found_before : t ≡ reach_at g m d → found ≡ furthest cells (reach_at g m d) slides
     found_before t-is = found-is ∙ ap₂ (λ (f : ℕ → ℕ) (u : ℕ). furthest f u slides) (next_row scanned.filled) t-is
 
-    pub scanned-more : (own other v next : ℕ) → t ≡ reach_at g m d → own ≡ own_side_lem k t (row_from new (row + row_cells)) → other ≡ other_side_lem k found
+    pub scanned-more : (own other v next : ℕ) → t ≡ reach_at g m d → own ≡ own_side_lem k t (row_from new (row + row_cells))
+        → other ≡ other_side_lem k found
         → v ≡ max own other → next ≡ d + 1 → d < row_cells → row + d < length old → Scanned g old (set new (row + d) v) row m k next found
     scanned-more own other v next t-is own_is other-is v-is one_more small inside =
         let own-before : own ≡ own_side_lem k (reach_at g m d) cells = own_is ∙ ap₂ (own_side_lem k) t-is (next_row scanned.filled) in

@@ -58,8 +58,10 @@ unfolding plain_marks
 plain-inside [] ls g p q narrow = tt
 plain-inside (z ∷ zs) [] g p q narrow = tt
 plain-inside (z ∷ zs) (l ∷ ls) g p q narrow =
-    let label = good-label z l (first_good place_in_range_lem z zs p) (first_good length_in_range_lem l ls q) in
-    (record { left = label.left; right = omega arith }, plain-inside zs ls g (rest-good place_in_range_lem z zs p) (rest-good length_in_range_lem l ls q) narrow)
+    let label = good-label z l (first_good place_in_range_lem z zs p) (first_good length_in_range_lem l ls q) in (
+      record { left = label.left; right = omega arith },
+      plain-inside zs ls g (rest-good place_in_range_lem z zs p) (rest-good length_in_range_lem l ls q) narrow,
+    )
 
 module _ (places : List ℤ) (lengths : List ℕ) (g : ℕ) (checked : Checked places lengths g) where
   -- for a strip that passed the checks

@@ -29,7 +29,8 @@ rows-from g cells (m ∷ ms) (suc i) table =
     rw (← next) (rows-from g (drop row_cells cells) ms i table.1)
 
 -- a filled row in front of the table of the rest
-row_before_lem : (g : ℕ) (old new : List ℕ) (row : ℕ) (m : Mark) (ms : List Mark) (value : ℕ → ℕ) → FilledTo old new row (m.label_length + 1) value
+row_before_lem : (g : ℕ) (old new : List ℕ) (row : ℕ) (m : Mark) (ms : List Mark) (value : ℕ → ℕ)
+    → FilledTo old new row (m.label_length + 1) value
     → ((d : ℕ) → d ≤ m.label_length → value d ≡ room g (reach_at g m d) ms) → TableHolds g (drop (row + row_cells) old) ms
     → TableHolds g (drop row new) (m ∷ ms)
 row_before_lem g old new row m ms value filled right table = (
