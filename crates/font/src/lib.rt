@@ -1,4 +1,6 @@
 // Labels that come as text: the width of each byte of the strip font, and three calls that measure with it.
+#![tactic(auto)]
+
 pub mod answer;
 mod letters;
 mod text;

@@ -3,12 +3,8 @@
 use mathlib.Core.Path.{refl}
 use Rattle.geometry.specs.Lists.{any_of}
 use Rattle.font.specs.Letters.{width_of}
-use Rattle.font.proofs.letters.table.Statement.{statement}
-use Rattle.font.proofs.letters.table.Tie as tie
+use Rattle.font.proofs.letters.table.Goals as goal
 
-returns : tie.Need-returns
+pub returns : goal.returns
 unfolding width_of any_of
 returns c = refl
-
-pub table-spec : {M : Type 1} → statement M
-table-spec = tie.close (tie.spec returns)
