@@ -2,22 +2,35 @@
 -- The name of a label of mark k is 2k + 2 or 2k + 3: half of it less 1 is k again, and its parity is the direction. So the reaches of the
 -- two names after mark k is placed are the reaches that the walk holds.
 use mathlib.Core.Path.{◌≡◌, refl, sym, ◌∙◌, ap}
+use mathlib.Core.Bool.{true}
 use mathlib.Core.List.{List}
-use mathlib.Core.Logic.{⊎_elim}
 use Prim.Native.Nat.{ℕ, ◌+◌, ◌-◌, ◌/◌, ◌%◌, ◌≤◌, ◌<◌}
 use native.Mathlib.Omega.{arith}
 use lib.IntN.{ℤ, pos}
-use lib.ListN.{length, get_or, set}
-use lib.Seq.{get_or-set_same, get_or-set_other}
+use lib.ListN.{length, get_or}
+use mir.Syntax.{w16}
+use mir.Val.{to_z, of_z}
 use borrow.Author.Tests.{lt-ltb, le-ltb, eq-eqb, ne_eqb}
 use Rattle.geometry.specs.Dot.{dot, empty_reach}
+use Rattle.geometry.specs.Lists.{every}
+use Rattle.geometry.specs.Mark.{place_in_range_lem}
 use Rattle.geometry.specs.Strip.{Strip}
 use Rattle.geometry.specs.Position.{above, below, Direction, leftward, rightward, Position, unlabelled, at}
 use Rattle.geometry.specs.Overlap.{right_end}
 use Rattle.geometry.specs.inner.At.{mark_at}
 use Rattle.geometry.specs.inner.Machine.{next_above, next_below}
-use Rattle.geometry.proofs.Split.{lt-or-ge}
+use Rattle.geometry.proofs.Accepted.{every-at}
+use Rattle.geometry.proofs.Dots.{InDots, fetched, range-dots, range-mag}
 use Rattle.best.specs.inner.Names.{name_of, last_after, reach_named, reach_at}
+
+-- of places that are all in their range, the dot that the code finds of the one that it reads, and the bounds of that dot
+module _ (zs : List ℤ) (i : ℕ) (good : every place_in_range_lem zs ≡ true) (inside : i < length zs) where
+  pub dot-read : (found : ℕ) → found ≡ dot (to_z w16 (of_z w16 (get_or zs i (pos 0)))) → found ≡ dot (get_or zs i (pos 0))
+  dot-read found is =
+      is ∙ ap dot (fetched (get_or zs i (pos 0)) (range-mag (get_or zs i (pos 0)) (every-at place_in_range_lem zs (pos 0) i good inside)))
+
+  pub dot-bounds : InDots (dot (get_or zs i (pos 0)))
+  dot-bounds = range-dots (get_or zs i (pos 0)) (every-at place_in_range_lem zs (pos 0) i good inside)
 
 -- the reach of a name, by the two tests that the program makes
 module _ (g : ℕ) (zs : List ℤ) (ls : List ℕ) (name : ℕ) where
@@ -66,13 +79,3 @@ module _ (g : ℕ) (s : Strip) (k : ℕ) where
 -- the list has the reaches of the first n names
 abbrev pub ReachesBelow : ℕ → List ℤ → List ℕ → List ℕ → ℕ → Type 0
 ReachesBelow g zs ls reaches n = (name : ℕ) → name < n → get_or reaches name 0 ≡ reach_named g zs ls name
-
--- storing the reach of the next name
-pub one-more-reach : (g : ℕ) (zs : List ℤ) (ls reaches : List ℕ) (n r : ℕ) → n < length reaches → ReachesBelow g zs ls reaches n
-    → r ≡ reach_named g zs ls n → ReachesBelow g zs ls (set reaches n r) (n + 1)
-one-more-reach g zs ls reaches n r inside known e =
-    λ name h.
-    ⊎_elim
-    (λ (l : name < n). get_or-set_other reaches n name r 0 (omega arith) ∙ known name l)
-    (λ (l : n ≤ name). let same : name ≡ n = omega arith in rw same (get_or-set_same reaches n r 0 inside ∙ e))
-    (lt-or-ge name n)

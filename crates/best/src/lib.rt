@@ -1,4 +1,6 @@
 // The best pass: labels in four positions for marks that may go without one, with the greatest sum of weights.
+#![tactic(auto)]
+
 pub mod answer;
 mod left_out;
 mod name;
@@ -35,9 +37,9 @@ fn fill_and_walk(
     positions: &mut [u8],
     work: &mut [u32],
 ) -> u32
-    requires fact_1 { CheckedAt gap (strip places.now lengths.now weights.now) work.old }
-    requires fact_2 { Reaches gap places.now lengths.now reaches.now }
-    requires fact_3 { length places.now ≤ length positions.old }
+    requires checked { CheckedAt gap (strip places.now lengths.now weights.now) work.old }
+    requires reaches_known { Reaches gap places.now lengths.now reaches.now }
+    requires positions_long { length places.now ≤ length positions.old }
     ensures { Labelled gap
         (strip places.now lengths.now weights.now) positions.old
         positions.new work.old work.new result }

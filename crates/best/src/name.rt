@@ -55,9 +55,9 @@ pub fn reach_of(places: &[i16], lengths: &[u8], gap: u8, name: usize) -> u16
 
 // Puts the reach of every name into a list, so that the loops of the table look it up.
 pub fn set_reaches(places: &[i16], lengths: &[u8], gap: u8, reaches: &mut [u16])
-    requires fact_1 { Known gap places.now lengths.now 0 }
-    requires fact_2 { names_before (length places.now) ≤ length reaches.old }
-    requires fact_3 { length places.now ≤ most_short }
+    requires known { Known gap places.now lengths.now 0 }
+    requires reaches_long { names_before (length places.now) ≤ length reaches.old }
+    requires few { length places.now ≤ most_short }
     ensures { Reaches gap places.now lengths.now reaches.new }
 {
     let mut name = 0;

@@ -5,7 +5,7 @@ ghost use Rattle.best.specs.inner.Row.{most_offer, SmallRow, offered, cell_from}
 
 // The reach above, where the label of mark k begins to the left and to the right, its weight, and what it earns with the marks after
 // it below to the left and below to the right. Places are dots here.
-#[derive(Drop)]
+#[derive(Clone, Copy, Drop)]
 pub struct Row {
     pub reach: u16,
     pub left: u16,
@@ -17,8 +17,8 @@ pub struct Row {
 
 // The larger of two sums. They are far below 2 to the 31, and signed numbers are the quicker to compare several at once.
 fn larger(a: u32, b: u32) -> u32
-    requires fact_1 { a ≤ most_offer }
-    requires fact_2 { b ≤ most_offer }
+    requires a_small { a ≤ most_offer }
+    requires b_small { b ≤ most_offer }
     ensures { result ≡ max a b }
 {
     if (a as i32) < (b as i32) {
@@ -30,11 +30,11 @@ fn larger(a: u32, b: u32) -> u32
 // The most that a label earns on a side that reaches to `reach`: `to_left` if it begins at `left`, `to_right` if at `place`, and
 // nothing where it has no room. There is room to the right wherever there is room to the left.
 fn offer(reach: u16, left: u16, place: u16, to_left: u32, to_right: u32) -> u32
-    requires fact_1 { left ≤ place }
-    requires fact_2 { to_left ≤ most_offer }
-    requires fact_3 { to_right ≤ most_offer }
-    ensures fact_1 { result ≡ offered reach left place to_left to_right }
-    ensures fact_2 { result ≤ most_offer }
+    requires left_first { left ≤ place }
+    requires to_left_small { to_left ≤ most_offer }
+    requires to_right_small { to_right ≤ most_offer }
+    ensures value { result ≡ offered reach left place to_left to_right }
+    ensures small { result ≤ most_offer }
 {
     if reach <= left {
         return larger(to_left, to_right);

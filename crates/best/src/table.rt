@@ -90,8 +90,8 @@ fn renew_row(
     k: usize,
     above: usize,
 )
-    requires fact_1 { Renewing (strip places.now lengths.now weights.now) reaches.now work.old k (above * names) }
-    requires fact_2 { above < names_before k }
+    requires renewing { Renewing (strip places.now lengths.now weights.now) reaches.now work.old k (above * names) }
+    requires above_before { above < names_before k }
     ensures { Renewed
         (strip places.now lengths.now weights.now)
         reaches.now k (suc above * names) work.old work.new }
@@ -128,9 +128,9 @@ fn renew(
 // The table, from the last mark to the first.
 pub fn fill(places: &[i16], lengths: &[u8], weights: &[u16], reaches: &[u16], work: &mut [u32])
     requires { Ready (strip places.now lengths.now weights.now) reaches.now work.old }
-    ensures fact_1 { AtEveryGap (strip places.now lengths.now weights.now) reaches.now
+    ensures filled { AtEveryGap (strip places.now lengths.now weights.now) reaches.now
         (λ g. Filled g (strip places.now lengths.now weights.now) 0 work.new) }
-    ensures fact_2 { drop work_named work.new ≡ drop work_named work.old }
+    ensures rest_kept { drop work_named work.new ≡ drop work_named work.old }
 {
     work::clear(work);
     let mut k = places.len();

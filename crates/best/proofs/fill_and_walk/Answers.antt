@@ -1,0 +1,27 @@
+-- `best::fill_and_walk` meets its contract: the filled table, the walk by it, and its first cell.
+use Rattle.geometry.specs.Strip.{strip}
+use Rattle.geometry.proofs.Lent.{cleared-again}
+use Rattle.best.specs.Best.{work_named}
+use Rattle.best.proofs.RenewedInParts.{checked-again}
+use Rattle.best.proofs.WalkIsBest.{first_cell}
+use Rattle.best.proofs.fill_and_walk.Goals as goal
+
+pub place_labels-requires : goal.place_labels-requires
+place_labels-requires c = record {
+  checked = record {
+    checked = checked-again c.args.work.now c.fill.new.work c.requires.checked.checked c.fill.auto.work;
+    gap-narrow = c.requires.checked.gap-narrow;
+  };
+  filled = c.fill.ensures.filled _ c.requires.reaches_known;
+  positions_long = c.requires.positions_long;
+}
+
+pub returns : goal.returns
+returns c =
+    let s = strip c.args.places.now c.args.lengths.now c.args.weights.now in
+    let again = cleared-again work_named 0 c.clear.new.work c.fill.new.work c.args.work.now in
+    record {
+      positions-written = c.place_labels.ensures;
+      sum_is = first_cell _ s _ (c.fill.ensures.filled _ c.requires.reaches_known);
+      work-cleared = again c.clear.ensures c.fill.ensures.rest_kept;
+    }

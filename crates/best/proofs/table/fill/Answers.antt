@@ -1,0 +1,46 @@
+-- `best::table::fill` meets its contract: the table counts the marks from index k on.
+use mathlib.Core.Path.{◌≡◌, refl, ◌∙◌}
+use Prim.Native.Nat.{suc, ◌-◌}
+use native.Mathlib.Omega.{arith}
+use Rattle.geometry.specs.Strip.{strip}
+use Rattle.geometry.proofs.Lent.{drop-cleared}
+use Rattle.best.specs.Best.{work_named}
+use Rattle.best.proofs.TableRenewed.{none-renewed, all-renewed, cleared-table}
+use Rattle.best.proofs.RenewedInParts.{ready-again}
+use Rattle.best.proofs.table.fill.Goals as goal
+
+pub loop-k-init : goal.loop-k-init
+loop-k-init c =
+    let s = strip c.args.places.now c.args.lengths.now c.args.weights.now in
+    (omega arith, refl, λ g known. cleared-table g s _ c.clear.new.work c.args.work.now c.requires.checked c.clear.ensures, refl)
+
+pub renew-requires : goal.renew-requires
+renew-requires c =
+    let s = strip c.args.places.now c.args.lengths.now c.args.weights.now in
+    let loop = c.loop-k in
+    let one_more : loop.k ≡ suc (loop.k - 1) = omega arith in
+    record {
+      ready = ready-again c.args.work.now loop.work c.requires (loop.invariant.1 ∙ c.clear.auto.work);
+      in-strip = omega arith;
+      partly = λ g known. none-renewed g s (loop.k - 1) loop.work (rw one_more at (loop.invariant.2 g known));
+    }
+
+pub loop-k-preserved : goal.loop-k-preserved
+loop-k-preserved c =
+    let s = strip c.args.places.now c.args.lengths.now c.args.weights.now in
+    let h = c.loop-k.invariant in
+    let done = c.renew.ensures in (
+      omega arith,
+      c.renew.auto.work ∙ h.1,
+      λ g known. all-renewed g s (c.loop-k.k - 1) _ (done.partly g known),
+      done.rest-kept ∙ h.3,
+    )
+
+pub returns : goal.returns
+returns c =
+    let h = c.loop-k.invariant in
+    let first : c.loop-k.k ≡ 0 = omega arith in
+    record {
+      filled = λ g known. rw first at (h.2 g known);
+      rest_kept = h.3 ∙ drop-cleared work_named 0 c.clear.new.work c.args.work.now c.clear.ensures;
+    }
