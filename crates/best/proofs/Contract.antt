@@ -29,7 +29,8 @@ module _ (s : Strip) (g : ℕ) (entry : BestLent) (n : ℕ) where
   number-found shortest e h = h ∙ ap (λ (l : ℕ). number_of (pass_verdict most_short s g l work_named (length entry.work))) e
 
   -- refused: the number is that of the checks, and all else is 0 or unchanged
-  pub answer-refused : n ≡ number_of (best_checks s g entry) → (n ≡ 0 → ⊥) → BestContract s g entry entry (record { number = n; sum = 0; count = 0 })
+  pub answer-refused : n ≡ number_of (best_checks s g entry) → (n ≡ 0 → ⊥)
+      → BestContract s g entry entry (record { number = n; sum = 0; count = 0 })
   answer-refused e no_zero =
       record {
         number_is = e;

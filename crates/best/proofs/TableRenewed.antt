@@ -43,7 +43,8 @@ module _ (g : ℕ) (s : Strip) (k : ℕ) where
     at_bound b d e partly = rw e at partly
 
     -- the bound moves past cells with a last label of mark k or later
-    move-past : (b d : ℕ) → b ≤ d → ((x y : ℕ) → x < names → y < names → b ≤ cell_of x y → cell_of x y < d → suc k ≤ max (x / 2) (y / 2))
+    move-past : (b d : ℕ) → b ≤ d
+        → ((x y : ℕ) → x < names → y < names → b ≤ cell_of x y → cell_of x y < d → suc k ≤ max (x / 2) (y / 2))
         → Partly g s k b table → Partly g s k d table
     move-past b d h late partly = record {
       cell = λ x y hx hy.

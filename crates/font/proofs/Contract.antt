@@ -127,7 +127,8 @@ module _ (texts counts : List ℕ) (room : ℕ) where
     unfolding lengths_verdict
     later-decides later =
         number-passes of_lists (letter_check texts ∷ of_lengths) lists-are lists-passed
-        (later ∙ in-two-parts texts (every count_fits_lem counts) (every length_in_range_lem (lengths_of counts texts)) _ (counts-of-good counts texts adds-up))
+        (later
+        ∙ in-two-parts texts (every count_fits_lem counts) (every length_in_range_lem (lengths_of counts texts)) _ (counts-of-good counts texts adds-up))
 
     pub refused-bytes : {n : ℕ} → n ≡ number_of_checks of_bytes → (n ≡ 0 → ⊥) → n ≡ number_of (lengths_verdict texts counts room)
     refused-bytes is some = later-decides (number-stands of_bytes of_lengths is some)
