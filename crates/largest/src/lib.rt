@@ -1,5 +1,7 @@
 // The largest letters that still fit: lengths come in letter cells, and the greatest width of a cell is found at which the full pass
 // places every label, from 30 dots down to 1.
+#![tactic(auto)]
+
 pub mod answer;
 mod scaled;
 mod widths;
