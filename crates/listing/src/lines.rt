@@ -10,8 +10,8 @@ use crate::text::{put_marks, put_number, put_positions, put_word};
 // A word, a number and the line's end.
 fn put_numbered(text: &mut [u8], at: usize, word: &[u8], number: u32) -> usize
     requires { at + (length word.now + 6) ≤ length text.old }
-    ensures fact_1 { Appended text.old at (word.now ++ decimal number ++ line_end) text.new result }
-    ensures fact_2 { result ≤ at + (length word.now + 6) }
+    ensures appended { Appended text.old at (word.now ++ decimal number ++ line_end) text.new result }
+    ensures within { result ≤ at + (length word.now + 6) }
 {
     let worded = put_word(text, at, word);
     let numbered = put_number(text, worded, number);
@@ -37,8 +37,8 @@ pub fn put_refused(text: &mut [u8], at: usize, number: u8) -> usize
 // "full" and the first `count` positions, each after a space, or "none".
 pub fn put_full(text: &mut [u8], at: usize, fits: bool, positions: &[u8], count: usize) -> usize
     requires { (count ≤ length positions.now) × (at + (6 * count + 10) ≤ length text.old) }
-    ensures fact_1 { Appended text.old at (full_word ++ tail_of fits (take count positions.now) ++ line_end) text.new result }
-    ensures fact_2 { result ≤ at + (6 * count + 10) }
+    ensures appended { Appended text.old at (full_word ++ tail_of fits (take count positions.now) ++ line_end) text.new result }
+    ensures within { result ≤ at + (6 * count + 10) }
 {
     if !fits {
         return put_word(text, at, b"full none\n");
@@ -51,8 +51,8 @@ pub fn put_full(text: &mut [u8], at: usize, fits: bool, positions: &[u8], count:
 // "slide" and "fits" or "none".
 pub fn put_slide(text: &mut [u8], at: usize, fits: bool) -> usize
     requires { at + 11 ≤ length text.old }
-    ensures fact_1 { Appended text.old at (slide_line fits) text.new result }
-    ensures fact_2 { result ≤ at + 11 }
+    ensures appended { Appended text.old at (slide_line fits) text.new result }
+    ensures within { result ≤ at + 11 }
 {
     if fits {
         return put_word(text, at, b"slide fits\n");
@@ -63,8 +63,8 @@ pub fn put_slide(text: &mut [u8], at: usize, fits: bool) -> usize
 // "best", the greatest sum, "of" and the weight of all marks.
 pub fn put_sums(text: &mut [u8], at: usize, sum: u32, all: u32) -> usize
     requires { at + 20 ≤ length text.old }
-    ensures fact_1 { Appended text.old at (best_line sum all) text.new result }
-    ensures fact_2 { result ≤ at + 20 }
+    ensures appended { Appended text.old at (best_line sum all) text.new result }
+    ensures within { result ≤ at + 20 }
 {
     let worded = put_word(text, at, b"best ");
     let summed = put_number(text, worded, sum);

@@ -16,8 +16,8 @@ const GAP: u8 = 1;
 
 // Whether the strip fits in four positions; if so, the positions of the first placing are put into the list.
 pub fn fits(places: &[i16], lengths: &[u8], weights: &[u16], positions: &mut [u8]) -> bool
-    requires fact_1 { entry most_marks (strip places.now lengths.now weights.now) ≡ accepted }
-    requires fact_2 { most_marks ≤ length positions.old }
+    requires good { entry most_marks (strip places.now lengths.now weights.now) ≡ accepted }
+    requires room { most_marks ≤ length positions.old }
     ensures { FullFound (strip places.now lengths.now weights.now) result positions.new }
 {
     let mut work = [0i16; full::WORK_NAMED];
@@ -44,8 +44,8 @@ pub fn choose(
     weights: &[u16],
     left_out: &mut [u16],
 ) -> best::answer::Best
-    requires fact_1 { entry most_short (strip places.now lengths.now weights.now) ≡ accepted }
-    requires fact_2 { most_short ≤ length left_out.old }
+    requires good { entry most_short (strip places.now lengths.now weights.now) ≡ accepted }
+    requires room { most_short ≤ length left_out.old }
     ensures { BestFound
         (strip places.now lengths.now weights.now) result.sum result.count
         left_out.new }

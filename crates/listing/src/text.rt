@@ -28,8 +28,8 @@ pub fn put_word(buffer: &mut [u8], at: usize, word: &[u8]) -> usize
 // The digit of a number at a power of ten, if the number reaches it.
 fn put_digit(buffer: &mut [u8], at: usize, number: u32, power: u32) -> usize
     requires { (at < length buffer.old) × (0 < power) }
-    ensures fact_1 { Appended buffer.old at (digit_at power number) buffer.new result }
-    ensures fact_2 { result ≤ at + 1 }
+    ensures appended { Appended buffer.old at (digit_at power number) buffer.new result }
+    ensures within { result ≤ at + 1 }
 {
     if number < power {
         return at;
@@ -40,8 +40,8 @@ fn put_digit(buffer: &mut [u8], at: usize, number: u32, power: u32) -> usize
 // A number in decimal digits, at most five.
 pub fn put_number(buffer: &mut [u8], at: usize, number: u32) -> usize
     requires { at + 5 ≤ length buffer.old }
-    ensures fact_1 { Appended buffer.old at (decimal number) buffer.new result }
-    ensures fact_2 { result ≤ at + 5 }
+    ensures appended { Appended buffer.old at (decimal number) buffer.new result }
+    ensures within { result ≤ at + 5 }
 {
     let first = put_digit(buffer, at, number, 10000);
     let second = put_digit(buffer, first, number, 1000);
@@ -53,8 +53,8 @@ pub fn put_number(buffer: &mut [u8], at: usize, number: u32) -> usize
 // A number after a space.
 fn put_spaced(buffer: &mut [u8], at: usize, number: u32) -> usize
     requires { at + 6 ≤ length buffer.old }
-    ensures fact_1 { Appended buffer.old at ((32 ∷ []) ++ decimal number) buffer.new result }
-    ensures fact_2 { result ≤ at + 6 }
+    ensures appended { Appended buffer.old at ((32 ∷ []) ++ decimal number) buffer.new result }
+    ensures within { result ≤ at + 6 }
 {
     let after = put_byte(buffer, at, 32);
     put_number(buffer, after, number)
@@ -63,8 +63,8 @@ fn put_spaced(buffer: &mut [u8], at: usize, number: u32) -> usize
 // The first `count` positions, each after a space.
 pub fn put_positions(buffer: &mut [u8], at: usize, positions: &[u8], count: usize) -> usize
     requires { (count ≤ length positions.now) × (at + 6 * count ≤ length buffer.old) }
-    ensures fact_1 { Appended buffer.old at (spaced (take count positions.now)) buffer.new result }
-    ensures fact_2 { result ≤ at + 6 * count }
+    ensures appended { Appended buffer.old at (spaced (take count positions.now)) buffer.new result }
+    ensures within { result ≤ at + 6 * count }
 {
     let mut next = at;
     let mut i = 0;
@@ -78,8 +78,8 @@ pub fn put_positions(buffer: &mut [u8], at: usize, positions: &[u8], count: usiz
 // The first `count` mark numbers, each after a space.
 pub fn put_marks(buffer: &mut [u8], at: usize, numbers: &[u16], count: usize) -> usize
     requires { (count ≤ length numbers.now) × (at + 6 * count ≤ length buffer.old) }
-    ensures fact_1 { Appended buffer.old at (spaced (take count numbers.now)) buffer.new result }
-    ensures fact_2 { result ≤ at + 6 * count }
+    ensures appended { Appended buffer.old at (spaced (take count numbers.now)) buffer.new result }
+    ensures within { result ≤ at + 6 * count }
 {
     let mut next = at;
     let mut i = 0;

@@ -1,0 +1,34 @@
+-- `listing::passes::choose` meets its contract: by what the best pass says.
+use mathlib.Core.Path.{◌≡◌}
+use mathlib.Core.List.{List}
+use native.Mathlib.Omega.{arith}
+use native.Mathlib.Nat.{le_refl}
+use Prim.Native.Nat.{ℕ, ◌≤◌}
+use lib.ListN.{length, replicate, length-replicate}
+use Rattle.geometry.specs.Strip.{Strip, strip, most_short}
+use Rattle.geometry.specs.Refusal.{accepted}
+use Rattle.geometry.specs.Entry.{entry}
+use Rattle.geometry.proofs.Accepted.{entry-accepted, accept-pass}
+use Rattle.best.specs.Best.{BestLent, best_lent, best_checks, work_named}
+use Rattle.listing.specs.Text.{listing_gap}
+use Rattle.listing.proofs.PassAnswers.{best-found}
+use Rattle.listing.proofs.passes.choose.Goals as goal
+
+-- what is lent beside the left-out list: positions and a work area of zeros
+abbrev lent_to : List ℕ → BestLent
+lent_to listed = best_lent (replicate most_short 0) listed (replicate work_named 0)
+
+-- every check of the pass is passed
+passed : (s : Strip) (listed : List ℕ) → entry most_short s ≡ accepted → most_short ≤ length listed
+    → best_checks s listing_gap (lent_to listed) ≡ accepted
+passed s listed entered room =
+    let good = entry-accepted most_short s entered in
+    accept-pass most_short s listing_gap _ work_named _ entered (omega arith)
+    (omega (arith, good.few, room, length-replicate {A = ℕ} most_short 0))
+    (rw (length-replicate {A = ℕ} work_named 0) (le_refl work_named))
+
+pub returns : goal.returns
+returns c =
+    let s = strip c.args.places.now c.args.lengths.now c.args.weights.now in
+    let listed = c.args.left_out.now in
+    best-found s (lent_to listed) _ _ c.best.ensures (passed s listed c.requires.good c.requires.room)
