@@ -17,7 +17,6 @@ use Rattle.geometry.specs.Lists.{sum_list}
 use Rattle.geometry.specs.Placing.{first_placing, best_sum}
 use Rattle.geometry.specs.Refusal.{refusal_number}
 use Rattle.geometry.specs.Pass.{written}
-use Rattle.geometry.specs.Entry.{entry}
 use Rattle.geometry.proofs.Split.{by-leb}
 use Rattle.geometry.proofs.Accepted.{Accepted, entry-accepted, length-marks}
 use Rattle.geometry.proofs.Best.{free-length}

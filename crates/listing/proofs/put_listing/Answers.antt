@@ -5,7 +5,7 @@ use lib.IntN.{pos}
 use lib.ListN.{replicate}
 use Rattle.geometry.specs.Strip.{Strip, strip, most_marks}
 use Rattle.job.specs.Calls.{shortest}
-use Rattle.job.proofs.ReadStrip.{ReadStrip, read-strip}
+use Rattle.job.proofs.ReadStrip.{read-strip}
 use Rattle.listing.proofs.JobText.{refused-listing, good-marks, accepted-listing}
 use Rattle.listing.proofs.put_listing.Goals as goal
 

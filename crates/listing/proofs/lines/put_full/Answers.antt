@@ -1,8 +1,6 @@
 -- `listing::lines::put_full` meets its contract: the fixed line, or the pieces one behind the other.
 use native.Mathlib.Omega.{arith}
 use Rattle.listing.proofs.Append.{appended-join}
-use borrow.Author.Rules.{rules}
-use borrow.Author.Tests.{not-true, not-false}
 use Rattle.listing.proofs.lines.put_full.Goals as goal
 
 pub returns-then-not-fits : goal.returns-then-not-fits

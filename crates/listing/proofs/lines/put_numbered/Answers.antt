@@ -1,7 +1,6 @@
 -- `listing::lines::put_numbered` meets its contract: the pieces one behind the other.
 use native.Mathlib.Omega.{arith}
 use Rattle.listing.proofs.Append.{appended-join}
-use borrow.Author.Rules.{rules}
 use Rattle.listing.proofs.lines.put_numbered.Goals as goal
 
 pub returns : goal.returns

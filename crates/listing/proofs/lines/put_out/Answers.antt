@@ -6,7 +6,6 @@ use lib.ListN.{take}
 use Rattle.listing.specs.Text.{out_line}
 use Rattle.listing.proofs.Append.{appended-is, appended-join}
 use Rattle.listing.proofs.Spacing.{out_some}
-use borrow.Author.Rules.{rules}
 use Rattle.listing.proofs.lines.put_out.Goals as goal
 
 pub returns-then-count-eq0 : goal.returns-then-count-eq0

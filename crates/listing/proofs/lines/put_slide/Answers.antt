@@ -1,6 +1,5 @@
 -- `listing::lines::put_slide` meets its contract: the word for each of the two cases.
 use native.Mathlib.Omega.{arith}
-use borrow.Author.Rules.{rules}
 use Rattle.listing.proofs.lines.put_slide.Goals as goal
 
 pub returns-then-fits : goal.returns-then-fits

@@ -2,7 +2,6 @@
 use mathlib.Core.List.{append_assoc}
 use native.Mathlib.Omega.{arith}
 use Rattle.listing.proofs.Append.{appended-is, appended-join}
-use borrow.Author.Rules.{rules}
 use Rattle.listing.proofs.lines.put_sums.Goals as goal
 
 pub returns : goal.returns

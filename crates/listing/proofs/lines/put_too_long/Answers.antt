@@ -1,6 +1,5 @@
 -- `listing::lines::put_too_long` meets its contract: the two lines are one fixed word.
 use Rattle.listing.specs.Text.{decimal}
-use borrow.Author.Rules.{rules}
 use Rattle.listing.proofs.lines.put_too_long.Goals as goal
 
 pub returns : goal.returns

@@ -1,10 +1,5 @@
 -- `listing::passes::total_weight` meets its contract: the sum so far and the sum of what is left are the whole.
-use mathlib.Core.Path.{◌≡◌}
-use Prim.Native.Nat.{◌+◌, ◌*◌, ◌-◌, ◌≤◌}
 use native.Mathlib.Omega.{arith}
-use lib.ListN.{length, drop}
-use Rattle.geometry.specs.Lists.{sum_list}
-use Rattle.geometry.specs.Strip.{most_short}
 use Rattle.listing.proofs.Sums.{sum_step, sum-end}
 use Rattle.listing.proofs.passes.total_weight.Goals as goal
 
@@ -20,7 +15,6 @@ loop-i-preserved c = (
   omega arith,
   omega (arith, c.shared_slice_known-1.given c.loop-i.i),
   omega (arith, sum_step c.args.weights.now c.loop-i.i (omega arith)),
-
 )
 
 pub returns : goal.returns

@@ -1,6 +1,5 @@
 -- `listing::text::put_byte` meets its contract: one store.
 use Rattle.listing.proofs.Append.{appended-byte}
-use borrow.Author.Rules.{rules}
 use Rattle.listing.proofs.text.put_byte.Goals as goal
 
 pub returns : goal.returns

@@ -2,7 +2,6 @@
 use native.Mathlib.Omega.{arith}
 use borrow.Author.Tests.{le-leb, lt-leb}
 use Rattle.listing.proofs.Append.{appended-none}
-use borrow.Author.Rules.{rules}
 use Rattle.listing.proofs.text.put_digit.Goals as goal
 
 pub returns-then-number-power : goal.returns-then-number-power

@@ -1,7 +1,5 @@
 -- `listing::text::put_marks` meets its contract: after i turns the first i numbers stand behind the text.
-use Prim.Native.Nat.{◌-◌}
-use native.Mathlib.Omega.{arith}
-use Rattle.listing.proofs.Spacing.{Spacing, spacing-none, spacing-more, spacing-done}
+use Rattle.listing.proofs.Spacing.{spacing-none, spacing-more, spacing-done}
 use Rattle.listing.proofs.text.put_marks.Goals as goal
 
 pub loop-i-init : goal.loop-i-init

@@ -2,7 +2,6 @@
 use native.Mathlib.Omega.{arith}
 use Rattle.listing.specs.Text.{decimal}
 use Rattle.listing.proofs.Append.{appended-join}
-use borrow.Author.Rules.{rules}
 use Rattle.listing.proofs.text.put_number.Goals as goal
 
 pub returns : goal.returns

@@ -1,7 +1,6 @@
 -- `listing::text::put_spaced` meets its contract: the number stands behind the space.
 use native.Mathlib.Omega.{arith}
 use Rattle.listing.proofs.Append.{appended-join}
-use borrow.Author.Rules.{rules}
 use Rattle.listing.proofs.text.put_spaced.Goals as goal
 
 pub returns : goal.returns

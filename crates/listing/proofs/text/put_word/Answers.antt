@@ -1,10 +1,9 @@
 -- `listing::text::put_word` meets its contract: after i turns the first i bytes of the word stand behind the text.
 use mathlib.Core.Path.{◌≡◌, refl}
-use Prim.Native.Nat.{◌+◌, ◌-◌, ◌≤◌}
+use Prim.Native.Nat.{◌+◌}
 use native.Mathlib.Omega.{arith}
-use lib.ListN.{length, take, length-set}
+use lib.ListN.{take, length-set}
 use lib.Seq.{take_all}
-use Rattle.listing.specs.inner.Append.{Appended}
 use Rattle.listing.proofs.Append.{appended-none, appended-more}
 use Rattle.listing.proofs.text.put_word.Goals as goal
 
