@@ -16,7 +16,8 @@ use Rattle.largest.specs.Widths.{lengths_at, none_over_lem}
 use Rattle.largest.specs.inner.Cells.{Scaled}
 
 -- each length is within 240 dots
-pub one-within : (width : ℕ) (cells : List ℕ) (i : ℕ) → none_over_lem width cells ≡ true → i < length cells → get_or cells i 0 * width ≤ most_length
+pub one-within : (width : ℕ) (cells : List ℕ) (i : ℕ) → none_over_lem width cells ≡ true → i < length cells
+    → get_or cells i 0 * width ≤ most_length
 one-within width cells i good h =
     let times : ℕ → ℕ = λ c. c * width in
     leb-true _ _

@@ -50,7 +50,8 @@ module _ (s : Strip) (lent left : FullLent) (number : ℕ) (call : FullContract 
       used-is (map code ps) lent.positions listed (sym long)
 
   -- the end of the line: the numbers of the placing, or "none"
-  by_answer : (o : Option (List Position)) → first_placing listing_gap (marks_of s) ≡ o → tail_of (eqb number 0) (take marks left.positions) ≡ full_tail o
+  by_answer : (o : Option (List Position)) → first_placing listing_gap (marks_of s) ≡ o
+      → tail_of (eqb number 0) (take marks left.positions) ≡ full_tail o
   by_answer none e = let n = number_by none e in rw (ne_eqb number 0 (λ z. omega arith)) refl
   by_answer (some ps) e = rw (eq-eqb number 0 (number_by (some ps) e)) (ap spaced (used ps e))
 
@@ -71,7 +72,8 @@ slide-told s lent left number call passed =
     (call.number_is ∙ ap (λ (v : Verdict). number_of (slide_verdict v (slides_whole listing_gap (marks_of s)))) passed)
 
 -- the best pass
-module _ (s : Strip) (lent left : BestLent) (r : Best) (call : BestContract s listing_gap lent left r) (passed : best_checks s listing_gap lent ≡ accepted) where
+module _ (s : Strip) (lent left : BestLent) (r : Best) (call : BestContract s listing_gap lent left r)
+    (passed : best_checks s listing_gap lent ≡ accepted) where
   -- what the contract gives past the checks
   answer : AcceptedAnswer s listing_gap lent left r
   answer = call.where-accepted passed

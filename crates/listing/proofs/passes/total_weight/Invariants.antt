@@ -7,7 +7,8 @@ use Rattle.geometry.specs.Strip.{most_short}
 use Rattle.listing.proofs.passes.total_weight.Given as goal
 
 abbrev pub invariant-loop-i : goal.invariant-loop-i
-invariant-loop-i l = (l.i ≤ length l.weights) × (length l.weights ≤ most_short) × (l.total ≤ 65535 * l.i) × (sum_list l.weights ≡ l.total + sum_list (drop l.i l.weights))
+invariant-loop-i l = (l.i ≤ length l.weights) × (length l.weights ≤ most_short) × (l.total ≤ 65535 * l.i)
+    × (sum_list l.weights ≡ l.total + sum_list (drop l.i l.weights))
 
 abbrev pub decreases-loop-i : goal.decreases-loop-i
 decreases-loop-i l = length l.weights - l.i
