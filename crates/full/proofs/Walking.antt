@@ -19,7 +19,7 @@ use Rattle.geometry.proofs.Each.{each-drop}
 use Rattle.geometry.proofs.Accepted.{length-marks, marks-from}
 use Rattle.full.specs.inner.Rest.{pick, steps, walk, pick_by_row}
 use Rattle.full.specs.inner.Row.{row_of}
-use Rattle.full.specs.inner.SixteenBits.{Carried, EndsHeld}
+use Rattle.full.specs.inner.SixteenBits.{Carried, is_empty, EndsHeld}
 use Rattle.full.specs.inner.OneMark.{StepReady, Stepped}
 use Rattle.full.specs.inner.Table.{AnyWeights, row_at, WalkReady, Walked}
 use Rattle.full.proofs.EndsHeld.{marks-held, mark-formed}
@@ -43,6 +43,20 @@ pub record Walking (places : List ℤ) (lengths : List ℕ) (g : ℕ) (work : Li
   pub untouched : drop i positions ≡ drop i entry
 
 module _ (places : List ℤ) (lengths : List ℕ) (g : ℕ) (work : List ℤ) (entry : List ℕ) where
+  -- before the first mark nothing is written and both sides are empty
+  pub walking_start : (above below : ℤ) → dot above ≡ empty_reach → dot below ≡ empty_reach → WalkReady places lengths g work entry
+      → Walking places lengths g work entry entry above below 0
+  walking_start above below above-empty below-empty ready =
+      record {
+        ready = ready;
+        inside = omega arith;
+        long = refl;
+        above-held = is_empty above-empty;
+        below-held = is_empty below-empty;
+        so_far = λ ws same. rw (above-empty, below-empty) refl;
+        untouched = refl;
+      }
+
   module _ (positions : List ℕ) (above below : ℤ) (i : ℕ) (w : Walking places lengths g work entry positions above below i) where
     -- the place of the mark here, and a number of its row
     abbrev here : ℤ

@@ -20,7 +20,7 @@ use Rattle.geometry.proofs.Split.{both, one-to, by_bool}
 use Rattle.geometry.proofs.Lent.{cleared-again, drop-cleared}
 use Rattle.geometry.proofs.Accepted.{pass-accepted, first_good, rest-good}
 use Rattle.full.specs.Full.{work_named, FullLent, full_checks}
-use Rattle.largest.specs.Widths.{none_over_lem, placing_at, fits_at, widths_from, largest_width}
+use Rattle.largest.specs.Widths.{none_over_lem, placing_at, fits_at, widest, widths_from, largest_width}
 use Rattle.largest.specs.Largest.{LargestContract}
 use Rattle.largest.specs.declared.answer.Largest.{Largest}
 use Rattle.largest.specs.inner.Trial.{Tried}
@@ -48,6 +48,9 @@ module _ (s : Strip) (g : ℕ) (entry : FullLent) where
     pub positions-kept : lent.positions ≡ entry.positions
     pub rest-kept : drop work_named lent.work ≡ drop work_named entry.work
     pub work-long : length lent.work ≡ length entry.work
+
+  pub trying-starts : Trying entry widest
+  trying-starts = record { least = omega arith; among-left = refl; positions-kept = refl; rest-kept = refl; work-long = refl }
 
   module _ (checked : full_checks s g entry ≡ accepted) (lent : FullLent) (width : ℕ) (trying : Trying lent width) where
     module _ (exit : FullLent) (fits : Bool) (tried : Tried s g width lent exit fits) where

@@ -1,5 +1,5 @@
 -- `full::walk::walk` meets its contract: the numbers written so far and the walk from the current mark on are the whole walk.
-use mathlib.Core.Path.{◌≡◌}
+use mathlib.Core.Path.{◌≡◌, refl}
 use mathlib.Core.List.{List}
 use Prim.Native.Nat.{ℕ, ◌+◌, ◌*◌, ◌<◌}
 use native.Mathlib.Omega.{arith}
@@ -10,7 +10,7 @@ use mir.Val.{to_z, of_z}
 use Rattle.geometry.specs.Position.{rightward}
 use Rattle.geometry.proofs.Dots.{fetched}
 use Rattle.full.proofs.EndsHeld.{formed-ends, mark-formed, carried-back, edge-back}
-use Rattle.full.proofs.Walking.{Walking, step-ready, walking-more, walking-done}
+use Rattle.full.proofs.Walking.{Walking, walking_start, step-ready, walking-more, walking-done}
 use Rattle.full.proofs.walk.walk.Goals as goal
 
 -- The numbers of a turn as they were read: the two reaches and the place.
@@ -27,6 +27,9 @@ module _ (places : List ℤ) (lengths : List ℕ) (g : ℕ) (work : List ℤ) (e
 
   place_read : read (get_or places i (pos 0)) ≡ get_or places i (pos 0)
   place_read = edge-back (get_or places i (pos 0)) ((formed-ends _ _ _ 0 (mark-formed places lengths g work w.ready.ready i more)).left-edge rightward)
+
+pub loop-i-init : goal.loop-i-init
+loop-i-init c = walking_start _ _ _ _ _ _ _ refl refl c.requires
 
 pub step-at-requires : goal.step-at-requires
 step-at-requires c =
