@@ -1,0 +1,14 @@
+-- `cases::lent::best_gives` is safe and ends: the contract shows that each part is as long as its count.
+use borrow.Author.Rules.{rules}
+use native.Mathlib.Omega.{arith}
+use Rattle.agreed.proofs.Parts.{taken}
+use Rattle.cases.proofs.lent.best_gives.Goals as goal
+
+pub slice_bounds-work_area-end : goal.slice_bounds-work_area-end
+slice_bounds-work_area-end c = taken _ _ (omega arith)
+
+pub best-got-requires : goal.best-got-requires
+best-got-requires c = taken _ _ (omega arith)
+
+pub returns : goal.returns
+returns c = taken _ _ (omega arith)

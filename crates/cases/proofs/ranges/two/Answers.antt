@@ -1,0 +1,14 @@
+-- `cases::ranges::two` is safe and ends: the contract shows that each part is as long as its count.
+use borrow.Author.Rules.{rules}
+use native.Mathlib.Omega.{arith}
+use Rattle.agreed.proofs.Parts.{taken}
+use Rattle.cases.proofs.ranges.two.Goals as goal
+
+pub slice_bounds-calls_give-end : goal.slice_bounds-calls_give-end
+slice_bounds-calls_give-end c = taken _ _ (omega arith)
+
+pub slice_bounds-calls_give-end-2 : goal.slice_bounds-calls_give-end-2
+slice_bounds-calls_give-end-2 c = taken _ _ (omega arith)
+
+pub slice_bounds-calls_give-end-3 : goal.slice_bounds-calls_give-end-3
+slice_bounds-calls_give-end-3 c = taken _ _ (omega arith)

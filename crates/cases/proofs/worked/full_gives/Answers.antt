@@ -1,0 +1,14 @@
+-- `cases::worked::full_gives` is safe and ends: the contract shows that each part is as long as its count.
+use borrow.Author.Rules.{rules}
+use native.Mathlib.Omega.{arith}
+use Rattle.agreed.proofs.Parts.{taken}
+use Rattle.cases.proofs.worked.full_gives.Goals as goal
+
+pub slice_bounds-full-end : goal.slice_bounds-full-end
+slice_bounds-full-end c = taken _ _ (omega arith)
+
+pub slice_bounds-full-end-2 : goal.slice_bounds-full-end-2
+slice_bounds-full-end-2 c = taken _ _ (omega arith)
+
+pub slice_bounds-full-end-3 : goal.slice_bounds-full-end-3
+slice_bounds-full-end-3 c = taken _ _ (omega arith)
