@@ -14,63 +14,63 @@ use Rattle.largest.specs.Largest.{Greatest}
 
 module _ (fits : ℕ → Bool) where
   -- the greatest of smaller widths, where the next one does not fit
-  with-next : (up_to_lem width : ℕ) → fits (suc up_to_lem) ≡ false → Greatest fits up_to_lem width → Greatest fits (suc up_to_lem) width
-  with-next up_to_lem width not greatest =
+  with-next : (limit width : ℕ) → fits (suc limit) ≡ false → Greatest fits limit width → Greatest fits (suc limit) width
+  with-next limit width not greatest =
       record {
         least = greatest.least;
         most = omega (arith, greatest.most);
         does = greatest.does;
         greater-not = λ w more within.
-            ⊎_elim (λ (h : up_to_lem < w). let next : w ≡ suc up_to_lem = omega arith in rw next not) (greatest.greater-not w more) (lt-or-ge up_to_lem w);
+            ⊎_elim (λ (h : limit < w). let next : w ≡ suc limit = omega arith in rw next not) (greatest.greater-not w more) (lt-or-ge limit w);
       }
 
   -- the first of one width more, by whether that one fits
   abbrev first-if : Bool → ℕ → Option ℕ
-  first-if does up_to_lem = cond does (some (suc up_to_lem)) (first_of fits (widths_from up_to_lem))
+  first-if does limit = cond does (some (suc limit)) (first_of fits (widths_from limit))
 
-  pub first-greatest : (up_to_lem width : ℕ) → first_of fits (widths_from up_to_lem) ≡ some width → Greatest fits up_to_lem width
+  pub first-greatest : (limit width : ℕ) → first_of fits (widths_from limit) ≡ some width → Greatest fits limit width
   unfolding first_of widths_from
   first-greatest zero width e = never-none width (sym e)
-  first-greatest (suc up_to_lem) width e =
-      by_bool (fits (suc up_to_lem)) (λ t. fits (suc up_to_lem) ≡ t → first-if t up_to_lem ≡ some width → Greatest fits (suc up_to_lem) width)
+  first-greatest (suc limit) width e =
+      by_bool (fits (suc limit)) (λ t. fits (suc limit) ≡ t → first-if t limit ≡ some width → Greatest fits (suc limit) width)
       (λ _ does found.
-      let is : width ≡ suc up_to_lem = cc in
+      let is : width ≡ suc limit = cc in
       record { least = omega arith; most = omega arith; does = rw is does; greater-not = λ w more within. absurd (omega arith) })
-      (λ _ not found. with-next up_to_lem width not (first-greatest up_to_lem width found))
+      (λ _ not found. with-next limit width not (first-greatest limit width found))
       refl
       e
 
-  pub greatest-first : (up_to_lem width : ℕ) → Greatest fits up_to_lem width → first_of fits (widths_from up_to_lem) ≡ some width
+  pub greatest-first : (limit width : ℕ) → Greatest fits limit width → first_of fits (widths_from limit) ≡ some width
   unfolding first_of widths_from
   greatest-first zero width greatest = absurd (omega (arith, greatest.least, greatest.most))
-  greatest-first (suc up_to_lem) width greatest =
+  greatest-first (suc limit) width greatest =
       ⊎_elim
-      (λ (h : width < suc up_to_lem).
-      rw (greatest.greater-not (suc up_to_lem) h (omega arith))
-      (greatest-first up_to_lem width
+      (λ (h : width < suc limit).
+      rw (greatest.greater-not (suc limit) h (omega arith))
+      (greatest-first limit width
       (record {
         least = greatest.least;
         most = omega arith;
         does = greatest.does;
         greater-not = λ w more within. greatest.greater-not w more (omega arith);
       })))
-      (λ (h : suc up_to_lem ≤ width).
-      let is : width ≡ suc up_to_lem = omega (arith, greatest.most) in
-      let does : fits (suc up_to_lem) ≡ true = sym (ap fits is) ∙ greatest.does in
+      (λ (h : suc limit ≤ width).
+      let is : width ≡ suc limit = omega (arith, greatest.most) in
+      let does : fits (suc limit) ≡ true = sym (ap fits is) ∙ greatest.does in
       rw (does, is) refl)
-      (lt-or-ge width (suc up_to_lem))
+      (lt-or-ge width (suc limit))
 
-  pub none-fits-at-all : (up_to_lem : ℕ) → first_of fits (widths_from up_to_lem) ≡ none → (width : ℕ) → 1 ≤ width → width ≤ up_to_lem
+  pub none-fits-at-all : (limit : ℕ) → first_of fits (widths_from limit) ≡ none → (width : ℕ) → 1 ≤ width → width ≤ limit
       → fits width ≡ false
   unfolding first_of widths_from
   none-fits-at-all zero e width least most = absurd (omega arith)
-  none-fits-at-all (suc up_to_lem) e width least most =
-      by_bool (fits (suc up_to_lem)) (λ t. fits (suc up_to_lem) ≡ t → first-if t up_to_lem ≡ none → fits width ≡ false)
-      (λ _ does found. never-none (suc up_to_lem) found)
+  none-fits-at-all (suc limit) e width least most =
+      by_bool (fits (suc limit)) (λ t. fits (suc limit) ≡ t → first-if t limit ≡ none → fits width ≡ false)
+      (λ _ does found. never-none (suc limit) found)
       (λ _ not None-found.
       ⊎_elim
-      (λ (h : up_to_lem < width). let is : width ≡ suc up_to_lem = omega arith in rw is not)
-      (λ (h : width ≤ up_to_lem). none-fits-at-all up_to_lem None-found width least h)
-      (lt-or-ge up_to_lem width))
+      (λ (h : limit < width). let is : width ≡ suc limit = omega arith in rw is not)
+      (λ (h : width ≤ limit). none-fits-at-all limit None-found width least h)
+      (lt-or-ge limit width))
       refl
       e

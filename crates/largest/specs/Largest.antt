@@ -23,11 +23,11 @@ pub record LargestContract (s : Strip) (g : ℕ) (entry exit : FullLent) (r : La
   pub work-is : exit.work ≡ work_after work_named (pos 0) (full_checks s g entry) entry.work
 
 -- "The width found fits and every greater one up to 30 does not": said of any test of widths, and of any width in place of 30
-pub record Greatest (fits : ℕ → Bool) (up_to_lem width : ℕ) : Type 0 where
+pub record Greatest (fits : ℕ → Bool) (limit width : ℕ) : Type 0 where
   pub least : 1 ≤ width
-  pub most : width ≤ up_to_lem
+  pub most : width ≤ limit
   pub does : fits width ≡ true
-  pub greater-not : (w : ℕ) → width < w → w ≤ up_to_lem → fits w ≡ false
+  pub greater-not : (w : ℕ) → width < w → w ≤ limit → fits w ≡ false
 
 abbrev pub IsLargest : ℕ → Strip → ℕ → Type 0
 IsLargest g s width = Greatest (fits_at g s) widest width
