@@ -1,4 +1,4 @@
--- Past its checks the pass meets its contract, case by case: no placing, and the first placing. At a refusal on entry nothing has changed.
+-- The pass meets its contract, case by case: a refusal on entry, no placing, and the first placing.
 -- Past the checks the marks rise, so the first placing is the walk's if the strip can be placed beside two sides without labels, and
 -- there is none if it cannot; which of the two holds is what the first mark's count says. The work area is cleared in both cases.
 use mathlib.Core.Path.{◌≡◌, refl, sym, ◌∙◌, ap, subst}
@@ -16,8 +16,8 @@ use Rattle.geometry.specs.Dot.{empty_reach}
 use Rattle.geometry.specs.Strip.{Strip, marks_of, most_marks}
 use Rattle.geometry.specs.Position.{Position}
 use Rattle.geometry.specs.Placing.{first_placing}
-use Rattle.geometry.specs.Refusal.{accepted, number_of, refusal_number, no_placing}
-use Rattle.geometry.specs.Pass.{cleared}
+use Rattle.geometry.specs.Refusal.{Verdict, accepted, refused, number_of, refusal_number, no_placing}
+use Rattle.geometry.specs.Pass.{cleared, work_after}
 use Rattle.geometry.specs.inner.At.{mark_at}
 use Rattle.geometry.specs.inner.Each.{Each}
 use Rattle.geometry.proofs.Split.{lt-or-ge}
@@ -33,6 +33,19 @@ use Rattle.full.proofs.First.{first-placing-is}
 use Rattle.full.proofs.Fits.{fits-by-count}
 
 module _ (s : Strip) (g : ℕ) (entry : FullLent) where
+  -- a refusal of the checks: its number, and nothing changed
+  by-refusal : (v : Verdict) (o : Option (List Position)) (n : ℕ) → n ≡ number_of v → (n ≡ 0 → ⊥)
+      → (n ≡ number_of (full_verdict v o)) × (entry.positions ≡ positions_after v o entry.positions)
+      × (entry.work ≡ work_after work_named (pos 0) v entry.work)
+  by-refusal accepted o n e z = absurd (z e)
+  by-refusal (refused r) o n e z = (e, refl, refl)
+
+  -- so a refused call meets the contract
+  pub refused-call : (n : ℕ) → n ≡ number_of (full_checks s g entry) → (n ≡ 0 → ⊥) → FullContract s g entry entry n
+  refused-call n e z =
+      let r = by-refusal (full_checks s g entry) (first_placing g (marks_of s)) n e z in
+      record { number_is = r.0; positions-are = r.1; work-is = r.2 }
+
   module _ (passed : number_of (full_checks s g entry) ≡ 0) where
     -- past the checks the strip is accepted, and the lent lists are long enough
     is-accepted : full_checks s g entry ≡ accepted
