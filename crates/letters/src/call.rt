@@ -34,7 +34,7 @@ fn is_left_so(work: &[i16; WHOLE], number: u8) -> bool {
 pub const UNCHANGED: u64 = 0x7777_7777_7777_7777;
 
 // What a call gives: the number, the width, and the position list of 8.
-#[derive(Drop)]
+#[derive(Clone, Copy, Drop)]
 pub struct Wanted(pub u8, pub u8, pub u64);
 
 // The call with `room` of 8 positions and `lent` elements of the work area.
@@ -49,7 +49,8 @@ pub fn gives_with(
     lent: usize,
     wanted: Wanted,
 ) -> u32
-    requires { (room ≤ 8) × (lent ≤ work_named + 8) }
+    requires positions_lent { room ≤ 8 }
+    requires work_lent { lent ≤ work_named + 8 }
 {
     let mut positions = [lists::UNWRITTEN; 8];
     let mut work = [USED; WHOLE];
