@@ -1,5 +1,5 @@
 // What the best pass hands back beside the lent lists.
-#[derive(Drop)]
+#[derive(Clone, Copy)]
 pub struct Best {
     pub number: u8,
     pub sum: u32,

@@ -3,7 +3,7 @@ ghost use Rattle.std.specs.Prelude.{◌≡◌, get_or};
 ghost use Rattle.geometry.specs.Position.{above, below, code, every_position, labelled, unlabelled};
 ghost use Rattle.best.specs.inner.Positions.{position_of, lies_on, direction_at, points_left};
 
-#[derive(Clone, Copy, Drop)]
+#[derive(Clone, Copy)]
 pub enum Position {
     Unlabelled,
     AboveRight,

@@ -5,7 +5,7 @@ ghost use Rattle.best.specs.inner.Row.{most_offer, SmallRow, offered, cell_from}
 
 // The reach above, where the label of mark k begins to the left and to the right, its weight, and what it earns with the marks after
 // it below to the left and below to the right. Places are dots here.
-#[derive(Clone, Copy, Drop)]
+#[derive(Clone, Copy)]
 pub struct Row {
     pub reach: u16,
     pub left: u16,

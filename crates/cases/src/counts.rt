@@ -18,7 +18,7 @@ fn set_places(places: &mut [i16])
 }
 
 // A mark's place, length and weight.
-#[derive(Drop)]
+#[derive(Clone, Copy)]
 struct Mark(i16, u8, u16);
 
 // What the calls must give for so many marks with another one in place of the last.

@@ -23,7 +23,7 @@ fn further(from: i16, dots: u8) -> i16
 
 // How far a side reaches with the mark's label to the left, which ends at the mark, and with the one to the right, which ends its length
 // further on; the gap lies behind both.
-#[derive(Drop)]
+#[derive(Clone, Copy)]
 pub struct Reaches {
     pub near: i16,
     pub far: i16,

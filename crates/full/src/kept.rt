@@ -12,7 +12,7 @@ use geometry::order::{at_most, larger};
 use geometry::outside::NO_REACH;
 
 // The reaches that the four positions, in the order 2, 3, 1, 4, leave to the other side, and how many of them are not NO_REACH.
-#[derive(Clone, Copy, Drop)]
+#[derive(Clone, Copy)]
 pub struct Kept {
     pub reaches: [i16; 4],
     pub count: u8,

@@ -12,7 +12,7 @@ use geometry::order::at_most;
 use geometry::outside::EMPTY_REACH;
 
 // The position taken at a mark, and the reaches above and below after it.
-#[derive(Drop)]
+#[derive(Clone, Copy)]
 pub struct Taken {
     pub position: u8,
     pub above: i16,

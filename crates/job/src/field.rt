@@ -9,7 +9,7 @@ use crate::format::BYTE_WIDTH;
 use geometry::refusal::{ABSENT_VALUE, BYTES_END, OUT_OF_RANGE};
 
 // A field that was read: its value and the position after it, or the number of a refusal.
-#[derive(Drop)]
+#[derive(Clone, Copy)]
 pub struct FieldRead {
     pub number: u8,
     pub value: u16,

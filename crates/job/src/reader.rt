@@ -20,7 +20,7 @@ use geometry::numbers::smaller;
 use geometry::refusal::{BYTES_END, BYTES_LEFT_OVER, LIST_TOO_SHORT, OUT_OF_RANGE};
 
 // A header that was read: the count of marks and the dot of the first place, or the number of a refusal.
-#[derive(Drop)]
+#[derive(Clone, Copy)]
 pub struct HeaderRead {
     pub number: u8,
     pub count: usize,

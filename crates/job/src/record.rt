@@ -11,7 +11,7 @@ use geometry::limits::{MOST_LENGTH, MOST_WEIGHT};
 use geometry::refusal::{BYTES_END, OUT_OF_RANGE, STRAY_BIT};
 
 // A place that was read: the dot of the mark and the position after its step, or the number of a refusal.
-#[derive(Drop)]
+#[derive(Clone, Copy)]
 pub struct PlaceRead {
     pub number: u8,
     pub dot: u16,
@@ -19,7 +19,7 @@ pub struct PlaceRead {
 }
 
 // A record that was read: its mark, the place as a dot, and the position after it, or the number of a refusal.
-#[derive(Drop)]
+#[derive(Clone, Copy)]
 pub struct RecordRead {
     pub number: u8,
     pub dot: u16,

@@ -20,7 +20,7 @@ use geometry::entry::check_strip;
 use geometry::refusal::LIST_TOO_SHORT;
 
 // The three values of a record. The first mark has no step, which is written as the absent value is.
-#[derive(Drop)]
+#[derive(Clone, Copy)]
 pub struct Record {
     pub step: u16,
     pub length: u16,

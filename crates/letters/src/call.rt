@@ -34,7 +34,7 @@ fn is_left_so(work: &[i16; WHOLE], number: u8) -> bool {
 pub const UNCHANGED: u64 = 0x7777_7777_7777_7777;
 
 // What a call gives: the number, the width, and the position list of 8.
-#[derive(Clone, Copy, Drop)]
+#[derive(Clone, Copy)]
 pub struct Wanted(pub u8, pub u8, pub u64);
 
 // The call with `room` of 8 positions and `lent` elements of the work area.

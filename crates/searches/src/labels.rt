@@ -6,7 +6,7 @@ use crate::strip::MOST;
 use agreed::lists;
 
 // A label as an open span on a side. The ends are counted in half dots from 256 dots left of dot 0.
-#[derive(Clone, Copy, Drop)]
+#[derive(Clone, Copy)]
 struct Span {
     side: u8,
     left: u32,

@@ -81,7 +81,7 @@ fn compared(
 }
 
 // What a strip shows, and the seed of the next.
-#[derive(Drop)]
+#[derive(Clone, Copy)]
 struct Shown {
     outcome: u8,
     seed: u64,

@@ -51,7 +51,6 @@ pub fn compared(dots: &[u8], places: &[i16], lengths: &[u8], weights: &[u16], ga
         &mut left_out,
         &mut work,
     );
-    let is_whole = best.count == 0;
     let agreed = agrees(dots, lengths, weights, gap, &positions, &left_out, best);
-    tally::outcome(agreed, is_whole)
+    tally::outcome(agreed, best.count == 0)
 }

@@ -52,7 +52,7 @@ fn placing(dots: &[u8], lengths: &[u8; 8], gap: u8) -> u32 {
 }
 
 // The greatest width with a placing and the first of its placings, or 0 and nothing.
-#[derive(Drop)]
+#[derive(Clone, Copy)]
 struct Found {
     width: u8,
     choice: u32,

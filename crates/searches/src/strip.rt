@@ -10,7 +10,7 @@ use agreed::{lists, tally};
 pub const MOST: usize = 6;
 
 // What marks are drawn from: steps of 1 to `steps` dots, and one of `spread` lengths from `shortest` on.
-#[derive(Clone, Copy, Drop)]
+#[derive(Clone, Copy)]
 pub struct Draw {
     pub steps: u64,
     pub shortest: u8,

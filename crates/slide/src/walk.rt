@@ -10,7 +10,7 @@ use crate::table;
 use geometry::dot::{EMPTY_REACH, dot_of, place_of};
 
 // A label's side and left edge, as a dot, and the two reaches after it: its own side reaches to its right end and the gap behind it.
-#[derive(Drop)]
+#[derive(Clone, Copy)]
 struct Label {
     side: u8,
     edge: u16,
