@@ -52,10 +52,10 @@ pub label-last : (k x y : ℕ) (s : Side) (d : Direction) → x / 2 ≤ k → y 
 label-last k x y above d h g = rw (name-number k d) (omega arith)
 label-last k x y below d h g = rw (name-number k d) (omega arith)
 
-module _ (k x y : ℕ) (p : Position) (IsAbove-before : x / 2 ≤ k) (below-before : y / 2 ≤ k) where
+module _ (k x y : ℕ) (p : Position) (above_before : x / 2 ≤ k) (below-before : y / 2 ≤ k) where
   -- the last labels after mark k are of marks up to k, so the cell after it counts the marks from k + 1 on
   later-number : max (suc k) (max (last_after above k p x / 2) (last_after below k p y / 2)) ≡ suc k
-  later-number = omega (arith, last-up-to above k x p IsAbove-before, last-up-to below k y p below-before)
+  later-number = omega (arith, last-up-to above k x p above_before, last-up-to below k y p below-before)
 
 -- the cell that a position leads to does not stand before the cell itself
 cell-later : (k x y : ℕ) (p : Position) → x / 2 ≤ k → y / 2 ≤ k → y < names → cell_of x y ≤ cell_after k x y p
@@ -90,7 +90,7 @@ greatest-same t f h [] e = refl
 greatest-same t f h (p ∷ xs) e = rw (e p, greatest-same t f h xs e) refl
 
 module _ (g : ℕ) (s : Strip) (work : List ℕ) (k x y : ℕ) (checked : Checked s work) (in-strip : k < length s.places)
-    (IsAbove-before : x / 2 ≤ k) (below-before : y / 2 ≤ k) where
+    (above_before : x / 2 ≤ k) (below-before : y / 2 ≤ k) where
   -- what a cell counts from mark k on, by the definition of `worth`
   worth-from : greatest_of (room_at g s k x y) (λ p. earned_by (get_or s.weights k 0) p + worth_after g s k x y p) every_position
       ≡ cell_worth g s k x y
@@ -110,10 +110,10 @@ module _ (g : ℕ) (s : Strip) (work : List ℕ) (k x y : ℕ) (checked : Checke
     -- the cell that a position leads to is not yet renewed
     led-to : (p : Position) → get_or work (cell_after k x y p) 0 ≡ worth_after g s k x y p
     led-to p =
-        let late = cell-later k x y p IsAbove-before below-before (omega arith) in
+        let late = cell-later k x y p above_before below-before (omega arith) in
         partly.cell (last_after above k p x) (last_after below k p y) (above-after p) (below-after p)
         ∙ ap (λ t. cell_worth g s (cond t k (suc k)) (last_after above k p x) (last_after below k p y)) (le-ltb _ (cell_of x y) late)
-        ∙ after-worth g s (suc k) k x y p (later-number k x y p IsAbove-before below-before)
+        ∙ after-worth g s (suc k) k x y p (later-number k x y p above_before below-before)
 
     -- the value that the program puts into the cell
     pub renewed-worth : most_at g s work k x y ≡ cell_worth g s k x y

@@ -1,7 +1,7 @@
 -- The best pass meets its contract.
 -- A number that is not 0 is that of the first check that is not passed, and nothing has been touched. Number 0 says that checks 6 to 10
 -- and 12 are passed, so the places rise; then the walk's choice is overlap-free and earns the best sum, and the zeros among the position
--- numbers, heaviest first, are its left_out list.
+-- numbers, heaviest first, are its left-out list.
 use mathlib.Core.Path.{◌≡◌, refl, sym, ◌∙◌, ap}
 use mathlib.Core.List.{List, map}
 use Prim.Native.Nat.{ℕ, ◌≤◌, min}

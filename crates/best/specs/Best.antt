@@ -1,5 +1,5 @@
--- "Best: the sum, a position for each mark (0 for none; no two of the labels overlap), the list of left_out mark numbers and its
--- length." Which choice among equal sums is open; "the best pass lists left_out marks by falling weight, and equal weights by rising
+-- "Best: the sum, a position for each mark (0 for none; no two of the labels overlap), the list of left-out mark numbers and its
+-- length." Which choice among equal sums is open; "the best pass lists left-out marks by falling weight, and equal weights by rising
 -- mark number" (document 02, P1). (Weighted Max-1d-4P, with a witness.) The pass takes a short strip: 0 to 60 marks; and "the passes
 -- take a gap, 0 to 8 dots. Two labels on one side overlap if their spans share more than an end point, or if fewer than that many dots
 -- lie between their nearer ends. Gap 0 is the old meaning." (document 02, P2)
@@ -48,7 +48,7 @@ pub record AcceptedAnswer (s : Strip) (g : ℕ) (entry exit : BestLent) (r : Bes
   -- "its sum is that of their weights"; no overlap-free choice has a greater one
   pub sum-earned : r.sum ≡ sum_of (marks_of s) choice
   pub sum-best : r.sum ≡ best_sum g (marks_of s)
-  -- "the list of left_out mark numbers and its length": of the listed choice, heaviest first
+  -- "the list of left-out mark numbers and its length": of the listed choice, heaviest first
   pub out_written : exit.left_out ≡ written (left_out_lem s.weights choice) entry.left_out
   pub out-counted : r.count ≡ length (left_out_lem s.weights choice)
   -- "the named part of the work area ends as zeros; the rest of it is unchanged"

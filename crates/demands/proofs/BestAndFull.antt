@@ -1,5 +1,5 @@
 -- Best and full on one strip. Past its checks the best pass lists an overlap-free choice that earns the best sum, and no overlap-free
--- choice exceeds that; its left_out list has what is proved of such lists. Each weight is at least 1, so the choice has a label for each
+-- choice exceeds that; its left-out list has what is proved of such lists. Each weight is at least 1, so the choice has a label for each
 -- mark exactly if its sum is the weight of all marks; the best sum is that exactly if there is a placing, and the full pass gives 0
 -- exactly if there is one.
 use mathlib.Core.Path.{◌≡◌, sym, ◌∙◌, ap}
@@ -52,7 +52,7 @@ module _ (s : Strip) (gap : ℕ) (lent left : BestLent) (answer : Best) (call : 
         good.same-weights,
       )
 
-  -- what it lists is a choice of the greatest sum, with its left_out marks
+  -- what it lists is a choice of the greatest sum, with its left-out marks
   pub best-chosen : BestChosen s gap lent left answer
   best-chosen =
       record {

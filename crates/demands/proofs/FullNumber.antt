@@ -80,7 +80,7 @@ module _ (s : Strip) (gap : ℕ) (lent left : FullLent) (number : ℕ) (call : F
     -- it is 0 exactly if there is a first placing, and 11 exactly if there is no placing at all
     pub fits-exactly : (number ≡ 0) ↔ (first ≡ none → ⊥)
     fits-exactly = (
-      λ zero None-found. never-none (fits-at-0 zero).placing (sym (fits-at-0 zero).is-first ∙ None-found),
+      λ zero none_found. never-none (fits-at-0 zero).placing (sym (fits-at-0 zero).is-first ∙ none_found),
       λ found. ⊎_elim (λ zero. zero) (λ eleven. absurd (found (none-at-11 eleven).1)) answers,
     )
 

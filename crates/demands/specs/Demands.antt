@@ -144,10 +144,10 @@ pub record BestChosen (s : Strip) (gap : ℕ) (lent left : BestLent) (answer : B
   -- "its sum is that of their weights", and no overlap-free choice has a greater one
   pub sum-earned : answer.sum ≡ sum_of (marks_of s) choice
   pub greatest : (other : List Position) → free gap (marks_of s) other ≡ true → sum_of (marks_of s) other ≤ answer.sum
-  -- "the list of left_out mark numbers and its length": it is the left_out list of the choice
+  -- "the list of left-out mark numbers and its length": it is the left-out list of the choice
   pub out_written : left.left_out ≡ written (left_out_lem s.weights choice) lent.left_out
   pub out-counted : answer.count ≡ length (left_out_lem s.weights choice)
-  -- "every left_out mark, each one time", and no other number; "by falling weight, and equal weights by rising mark number"; no other
+  -- "every left-out mark, each one time", and no other number; "by falling weight, and equal weights by rising mark number"; no other
   -- list is so
   pub out_once : ListsLeftOut choice (left_out_lem s.weights choice)
   pub out-ordered : HeaviestFirst s.weights (left_out_lem s.weights choice)

@@ -67,10 +67,10 @@ module _ (fits : ℕ → Bool) where
   none-fits-at-all (suc limit) e width least most =
       by_bool (fits (suc limit)) (λ t. fits (suc limit) ≡ t → first-if t limit ≡ none → fits width ≡ false)
       (λ _ does found. never-none (suc limit) found)
-      (λ _ not None-found.
+      (λ _ not none_found.
       ⊎_elim
       (λ (h : limit < width). let is : width ≡ suc limit = omega arith in rw is not)
-      (λ (h : width ≤ limit). none-fits-at-all limit None-found width least h)
+      (λ (h : width ≤ limit). none-fits-at-all limit none_found width least h)
       (lt-or-ge limit width))
       refl
       e

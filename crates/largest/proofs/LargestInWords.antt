@@ -75,19 +75,19 @@ module _ (g : ℕ) (s : Strip) where
           }
 
     -- none is
-    module _ (None-found : largest_width g s ≡ none) where
+    module _ (none_found : largest_width g s ≡ none) where
       number-is-11 : r.number ≡ refusal_number no_placing
-      number-is-11 = met.number_is ∙ rw (checked, None-found) refl
+      number-is-11 = met.number_is ∙ rw (checked, none_found) refl
 
       none-is-largest : {X : Type 0} → (width : ℕ) → IsLargest g s width → X
-      none-is-largest width is = never-none width (sym (only-largest width is) ∙ None-found)
+      none-is-largest width is = never-none width (sym (only-largest width is) ∙ none_found)
 
       nothing-found : LargestInWords s g r
       nothing-found =
           record {
             found = λ zero. absurd (omega (arith, number-is-11));
             only = λ width is. none-is-largest width is;
-            none-exactly = (λ _. none-fits-at-all (fits_at g s) widest None-found 1 (omega arith) (omega arith), λ _. number-is-11);
+            none-exactly = (λ _. none-fits-at-all (fits_at g s) widest none_found 1 (omega arith) (omega arith), λ _. number-is-11);
             smaller-fit = λ zero w less. absurd (omega (arith, number-is-11));
             no-marks = λ no-places. none-is-largest widest (empty-largest no-places);
           }

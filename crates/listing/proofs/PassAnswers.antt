@@ -78,7 +78,7 @@ module _ (s : Strip) (lent left : BestLent) (r : Best) (call : BestContract s li
   answer : AcceptedAnswer s listing_gap lent left r
   answer = call.where-accepted passed
 
-  -- the left_out list as far as it is used, and that it is long enough
+  -- the left-out list as far as it is used, and that it is long enough
   abbrev out : List ℕ
   out = left_out_lem s.weights answer.choice
 

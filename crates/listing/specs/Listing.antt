@@ -23,7 +23,7 @@ pub record SlidesSomehow (s : Strip) : Type 0 where
   pub whole : 1 ≤ denominator
   pub placing : Slides listing_gap denominator (marks_of s)
 
--- what is open: an overlap-free choice of the greatest sum; "the listing's out line shows" its left_out marks "in that order", by
+-- what is open: an overlap-free choice of the greatest sum; "the listing's out line shows" its left-out marks "in that order", by
 -- falling weight and equal weights by rising mark number (document 02, P1)
 pub record Chosen (s : Strip) (out : List ℕ) : Type 0 where
   pub choice : List Position

@@ -21,13 +21,13 @@ use Rattle.slide.specs.Slide.{work_named}
 use Rattle.slide.specs.inner.Plain.{plain_marks, Checked}
 use Rattle.slide.specs.inner.Room.{slideable}
 use Rattle.slide.specs.inner.Table.{row_cells, row_from, RowHolds, TableHolds}
-use Rattle.slide.specs.inner.Walk.{takes_above, side_of, side_before, sides_from, LabelOn, StepReady}
+use Rattle.slide.specs.inner.Walk.{takes_above, side_of, side_before, sides_from, LabelOn, StepReady, fits_plain}
 use Rattle.slide.proofs.ExactCells.{LabelInside, Inside, cells_of}
 use Rattle.slide.proofs.WalkAllowed.{Goes, walk-goes, below-small, walk-length}
 use Rattle.slide.proofs.PlainMarks.{plain_at, marks-inside, marks-length, label_at, marks-from, marks-end}
 use Rattle.slide.proofs.FilledRows.{own_same}
 use Rattle.slide.proofs.RowByRow.{rows-from}
-use Rattle.slide.proofs.WrittenSoFar.{WrittenTo, written-more, written_all}
+use Rattle.slide.proofs.WrittenSoFar.{WrittenTo, written_none, written-more, written_all}
 
 -- as many edges as sides
 edges-length : (g a b : ℕ) (ms : List Mark) (ss : List Side) → length ss ≡ length ms → length (edges_from g a b ms ss) ≡ length ms
@@ -77,6 +77,13 @@ module _ (places : List ℤ) (lengths : List ℕ) (g : ℕ) where
     pub going : slideable g a b (drop i marks) ≡ true
     pub sides-so-far : WrittenTo all_sides sides old_sides i (sides_left g a b (drop i marks))
     pub edges-so-far : WrittenTo all_edges edges old_edges i (edges_left g a b (drop i marks))
+
+  -- at the start nothing is written, both sides are empty, and the strip fits
+  pub walked_none : (sides : List ℕ) (edges : List ℤ) (i : ℕ) → i ≡ 0 → fits_plain places lengths g ≡ true
+      → WalkedTo sides sides edges edges empty_reach empty_reach i
+  walked_none sides edges i none fits =
+      rw none
+      (record { small = omega arith; going = fits; sides-so-far = written_none all_sides sides; edges-so-far = written_none all_edges edges })
 
   module _ (checked : Checked places lengths g) where
     -- a side and an edge for each mark

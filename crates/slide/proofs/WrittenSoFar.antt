@@ -1,6 +1,6 @@
 -- A list that is written element by element from the left ends as the whole, unchanged beyond it. What is written so far and what is still
 -- to come are together the whole; writing the next element moves it from the one part to the other, and at the end nothing is to come.
-use mathlib.Core.Path.{◌≡◌, sym, ◌∙◌}
+use mathlib.Core.Path.{◌≡◌, refl, sym, ◌∙◌}
 use mathlib.Core.List.{List, [], ◌∷◌, ◌++◌, append_assoc, append-nil}
 use Prim.Native.Nat.{ℕ, ◌+◌, ◌<◌}
 use lib.ListN.{length, take, drop, set, length-set}
@@ -14,7 +14,10 @@ module _ {A : Type 0} where
     pub beyond : drop i list ≡ drop i old
     pub same_length : length list ≡ length old
 
-  -- one more element is written, all are
+  -- nothing is written yet, one more element is, all are
+  pub written_none : (whole old : List A) → WrittenTo whole old old 0 whole
+  written_none whole old = record { so_far = refl; beyond = refl; same_length = refl }
+
   pub written-more : (whole list old : List A) (i : ℕ) (v : A) (coming : List A) → WrittenTo whole list old i (v ∷ coming) → i < length list
       → WrittenTo whole (set list i v) old (i + 1) coming
   written-more whole list old i v coming so_far h =
