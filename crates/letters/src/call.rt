@@ -49,8 +49,7 @@ pub fn gives_with(
     lent: usize,
     wanted: Wanted,
 ) -> u32
-    requires positions_lent { room ≤ 8 }
-    requires work_lent { lent ≤ work_named + 8 }
+    requires { (room ≤ 8) × (lent ≤ work_named + 8) }
 {
     let mut positions = [lists::UNWRITTEN; 8];
     let mut work = [USED; WHOLE];

@@ -97,8 +97,7 @@ fn bad_marks(agreed: u32) -> u32 {
 
 // Two marks, the second with so many cells, and so many positions and elements of the work area.
 fn lent_give(agreed: u32, case: u32, cells: u8, room: usize, lent: usize, wanted: Wanted) -> u32
-    requires positions_lent { room ≤ 8 }
-    requires work_lent { lent ≤ work_named + 8 }
+    requires { (room ≤ 8) × (lent ≤ work_named + 8) }
 {
     call::gives_with(
         agreed,

@@ -23,8 +23,7 @@ pub const LARGEST: u32 = 4;
 
 // How many values a digit has; sliding has labels of at most 7 dots.
 fn values(model: u32) -> u32
-    ensures some { 0 < result }
-    ensures few { result ≤ 30 }
+    ensures { (0 < result) × (result ≤ 30) }
 {
     if model == FULL {
         return 4;

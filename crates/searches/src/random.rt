@@ -36,10 +36,7 @@ fn shown_by_first(
     weights: &[u16],
     gap: u8,
 ) -> u8
-    requires dots_given { n ≤ length dots.now }
-    requires places_given { n ≤ length places.now }
-    requires lengths_given { n ≤ length lengths.now }
-    requires weights_given { n ≤ length weights.now }
+    requires { (n ≤ length dots.now) × (n ≤ length places.now) × (n ≤ length lengths.now) × (n ≤ length weights.now) }
 {
     shown_by(
         model,
