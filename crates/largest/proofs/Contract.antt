@@ -1,10 +1,10 @@
--- Past its checks the call meets its contract: the first width that fits, where the full pass has written its positions and cleared the
+-- The call meets its contract: a refusal on entry; the first width that fits, where the full pass has written its positions and cleared the
 -- work area; and none, where the last width tried was 1 dot. At a width that does not fit the full pass leaves the positions alone and
 -- the work area zero, or is not called, so nothing has to be undone.
 use mathlib.Core.Path.{◌≡◌, refl, sym, ◌∙◌, ap}
 use mathlib.Core.Bool.{Bool, true, false, cond}
 use mathlib.Core.List.{List, [], ◌∷◌}
-use mathlib.Core.Option.{none, some}
+use mathlib.Core.Option.{Option, none, some}
 use Prim.Native.Nat.{ℕ, ◌*◌, ◌-◌, ◌≤◌, ◌<◌}
 use native.Mathlib.Omega.{arith}
 use lib.Dec.{leb}
@@ -14,16 +14,18 @@ use borrow.Author.Tests.{le-leb}
 use Rattle.geometry.specs.Lists.{every, first_of}
 use Rattle.geometry.specs.Mark.{most_length, length_in_range_lem}
 use Rattle.geometry.specs.Strip.{Strip, most_marks}
-use Rattle.geometry.specs.Refusal.{accepted, refusal_number, no_placing}
-use Rattle.geometry.specs.Pass.{cleared}
+use Rattle.geometry.specs.Position.{Position}
+use Rattle.geometry.specs.Refusal.{Verdict, accepted, refused, number_of, refusal_number, no_placing}
+use Rattle.geometry.specs.Pass.{cleared, work_after}
 use Rattle.geometry.proofs.Split.{both, one-to, by_bool}
 use Rattle.geometry.proofs.Lent.{cleared-again, drop-cleared}
 use Rattle.geometry.proofs.Accepted.{pass-accepted, first_good, rest-good}
-use Rattle.full.specs.Full.{work_named, FullLent, full_checks}
-use Rattle.largest.specs.Widths.{none_over_lem, placing_at, fits_at, widest, widths_from, largest_width}
-use Rattle.largest.specs.Largest.{LargestContract}
+use Rattle.full.specs.Full.{work_named, FullLent, full_checks, full_verdict, positions_after}
+use Rattle.largest.specs.Widths.{none_over_lem, placing_at, fits_at, widest, widths_from, largest_width, placing_of}
+use Rattle.largest.specs.Largest.{width_after, LargestContract}
 use Rattle.largest.specs.declared.answer.Largest.{Largest}
-use Rattle.largest.specs.inner.Trial.{Tried}
+use Rattle.largest.specs.inner.Cells.{most_of}
+use Rattle.largest.specs.inner.Trial.{TrialReady, Tried}
 use Rattle.largest.proofs.FullAtWidth.{not_there, is-there, there-within}
 use Rattle.largest.proofs.InTurn.{first_fits, next-width, none_left}
 
@@ -41,6 +43,19 @@ unfolding placing_at
 fits-within g s width = there-within (none_over_lem width s.lengths) _
 
 module _ (s : Strip) (g : ℕ) (entry : FullLent) where
+  -- a refusal of the checks: its number, width 0, and nothing changed
+  by-refusal : (v : Verdict) (o : Option (List Position)) (w : Option ℕ) (n : ℕ) → n ≡ number_of v → (n ≡ 0 → ⊥)
+      → (n ≡ number_of (full_verdict v o)) × (0 ≡ width_after v w) × (entry.positions ≡ positions_after v o entry.positions)
+      × (entry.work ≡ work_after work_named (pos 0) v entry.work)
+  by-refusal accepted o w n e z = absurd (z e)
+  by-refusal (refused r) o w n e z = (e, refl, refl, refl)
+
+  pub refused-call : (r : Largest) → r.number ≡ number_of (full_checks s g entry) → (r.number ≡ 0 → ⊥) → r.width ≡ 0
+      → LargestContract s g entry entry r
+  refused-call r e z width-0 =
+      let met = by-refusal (full_checks s g entry) (placing_of g s (largest_width g s)) (largest_width g s) r.number e z in
+      record { number_is = met.0; width_is = width-0 ∙ met.1; positions-are = met.2; work-is = met.3 }
+
   -- the widths so far did not fit: the first that does is among those left
   pub record Trying (lent : FullLent) (width : ℕ) : Type 0 where
     pub least : 1 ≤ width
@@ -53,6 +68,11 @@ module _ (s : Strip) (g : ℕ) (entry : FullLent) where
   trying-starts = record { least = omega arith; among-left = refl; positions-kept = refl; rest-kept = refl; work-long = refl }
 
   module _ (checked : full_checks s g entry ≡ accepted) (lent : FullLent) (width : ℕ) (trying : Trying lent width) where
+    -- so the next can be tried
+    pub ready-to-try : (most : ℕ) → most ≡ most_of s.lengths → TrialReady s g most width lent
+    ready-to-try most is =
+        record { checked = rw (trying.positions-kept, trying.work-long) checked; most-is = is; least = trying.least }
+
     module _ (exit : FullLent) (fits : Bool) (tried : Tried s g width lent exit fits) where
       rest-same : drop work_named exit.work ≡ drop work_named entry.work
       rest-same =

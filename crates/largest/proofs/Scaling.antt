@@ -11,7 +11,7 @@ use lib.Seq.{drop-cons, drop-length, append_snoc}
 use borrow.Author.Tests.{leb-true}
 use Rattle.geometry.specs.Mark.{most_length}
 use Rattle.geometry.proofs.Accepted.{every-at}
-use Rattle.geometry.proofs.Lent.{take_more, drop_more, written-whole, used-is}
+use Rattle.geometry.proofs.Lent.{take_more, drop_more, written-whole, used-is, used-within}
 use Rattle.largest.specs.Widths.{lengths_at, none_over_lem}
 use Rattle.largest.specs.inner.Cells.{Scaled}
 
@@ -32,6 +32,9 @@ pub record Scaling (width : ℕ) (cells entry list : List ℕ) (i : ℕ) : Type 
   pub roomy : length cells ≤ length entry
 
 module _ (width : ℕ) (cells entry : List ℕ) where
+  pub scaling-starts : length cells ≤ length entry → Scaling width cells entry entry 0
+  scaling-starts roomy = record { passed = omega arith; so_far = refl; rest-kept = refl; long = refl; roomy = roomy }
+
   module _ (list : List ℕ) (i : ℕ) (scaling : Scaling width cells entry list i) where
     -- one length is written
     pub scaling-on : i < length cells → Scaling width cells entry (set list i (get_or cells i 0 * width)) (i + 1)
@@ -57,10 +60,13 @@ module _ (width : ℕ) (cells entry : List ℕ) where
         let all = sym (append-nil (take i list)) ∙ ap (λ (l : List ℕ). take i list ++ l) (sym none) ∙ scaling.so_far in
         record { lengths-are = written-whole i list _ entry all scaling.rest-kept (length-map cells (λ c. c * width) ∙ sym e) }
 
--- of a list with the lengths at a width, as many elements as there are cells are these
+-- of a list with the lengths at a width, as many elements as there are cells are these, and it is not shorter
 module _ (cells : List ℕ) {width : ℕ} {entry list : List ℕ} (scaled : Scaled cells width entry list) where
   one-for-each : length cells ≡ length (lengths_at width cells)
   one-for-each = sym (length-map cells (λ c. c * width))
 
   pub lengths-used : take (length cells) list ≡ lengths_at width cells
   lengths-used = used-is (lengths_at width cells) entry scaled.lengths-are one-for-each
+
+  pub lengths-within : length cells ≤ length list
+  lengths-within = used-within (lengths_at width cells) entry scaled.lengths-are one-for-each

@@ -6,6 +6,7 @@ use mathlib.Core.Logic.{⊎_elim}
 use mathlib.Core.List.{List}
 use Prim.Native.Nat.{ℕ, suc, ◌+◌, ◌≤◌, ◌<◌, max}
 use native.Mathlib.Omega.{arith}
+use borrow.Author.Tests.{le-leb, lt-leb}
 use lib.ListN.{length, get_or, set, length-set}
 use lib.Seq.{get_or-drop, get_or-set_same, get_or-set_other, drop-set-lt}
 use Rattle.geometry.specs.Mark.{Mark}
@@ -13,6 +14,10 @@ use Rattle.geometry.proofs.Split.{by-leb, lt-or-ge}
 use Rattle.slide.specs.inner.Room.{slid_by, reach_at, furthest, own_side_lem, other_side_lem, room_before}
 use Rattle.slide.specs.inner.Table.{row_cells, row_from, FilledTo, row_before}
 use Rattle.slide.proofs.FurthestSlide.{furthest-within, furthest-same, furthest-resumed}
+
+-- no cell yet
+pub filled_none : (old : List ℕ) (row d : ℕ) (value : ℕ → ℕ) → d ≡ 0 → FilledTo old old row d value
+filled_none old row d value none = record { cells = λ e h. absurd (omega arith); behind = refl; same_length = refl }
 
 -- one more cell
 pub filled_more : (old new : List ℕ) (row d next v : ℕ) (value : ℕ → ℕ) → FilledTo old new row d value → next ≡ d + 1 → d < row_cells
@@ -28,6 +33,11 @@ filled_more old new row d next v value filled one_more small inside is =
       same_length = length-set new (row + d) v ∙ long;
     }
 
+-- all cells
+pub filled-whole : {old new : List ℕ} {row d : ℕ} {value : ℕ → ℕ} (most : ℕ) → FilledTo old new row d value → d ≡ most
+    → FilledTo old new row most value
+filled-whole most filled at-end = rw (← at-end) filled
+
 -- the next row reads as it did
 next_row : {old new : List ℕ} {row d : ℕ} {value : ℕ → ℕ} → FilledTo old new row d value
     → row_from new (row + row_cells) ≡ row_from old (row + row_cells)
@@ -37,6 +47,19 @@ next_row {old} {new} {row} filled =
     sym (get_or-drop (row + row_cells) new e 0)
     ∙ ap (λ (l : List ℕ). get_or l e 0) filled.behind
     ∙ get_or-drop (row + row_cells) old e 0)
+
+-- the cell of a label on the side of the reach, as the code finds it
+module _ (m : Mark) (t : ℕ) (cells : ℕ → ℕ) where
+  -- none where the reach is beyond the mark, else the cell of its slide
+  pub own-beyond : m.place < t → 0 ≡ own_side_lem m t cells
+  own-beyond h = rw (lt-leb t m.place h) refl
+
+  pub own-by-cell : (d : ℕ) → d ≡ slid_by m t → t ≤ m.place → cells d ≡ own_side_lem m t cells
+  own-by-cell d e h = rw (le-leb t m.place h, e) refl
+
+  -- so a cell that is not 0 says that the reach is not beyond the mark
+  pub own-within : (b : ℕ) → b < own_side_lem m t cells → t ≤ m.place
+  own-within b h = ⊎_elim (λ beyond. absurd (omega (arith, own-beyond beyond))) (λ within. within) (lt-or-ge m.place t)
 
 -- of a mark's cells those up to its label's length are read
 module _ (m : Mark) (t : ℕ) (f h : ℕ → ℕ) (short : m.label_length < m.place) (same : (d : ℕ) → d ≤ m.label_length → f d ≡ h d) where
@@ -55,6 +78,16 @@ pub record Scanned (g : ℕ) (old new : List ℕ) (row : ℕ) (m k : Mark) (d sl
   pub left :
       furthest (row_from old (row + row_cells)) (reach_at g m d) (suc k.label_length)
       ≡ furthest (row_from old (row + row_cells)) (reach_at g m d) slides
+
+-- no cell yet, and the scan starts at the label's length
+pub scanned-none : (g : ℕ) (old : List ℕ) (row : ℕ) (m k : Mark) (d slides : ℕ) → d ≡ 0 → slides ≡ suc k.label_length
+    → Scanned g old old row m k d slides
+scanned-none g old row m k d slides none all =
+    record {
+      filled = filled_none _ _ _ _ none;
+      within = omega arith;
+      left = ap (furthest (row_from old (row + row_cells)) (reach_at g m d)) (sym all);
+    }
 
 -- one more cell, at the reach t that the code finds for the label that slid by d
 module _

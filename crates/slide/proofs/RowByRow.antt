@@ -98,3 +98,9 @@ module _ (places : List ℤ) (lengths : List ℕ) (g : ℕ) (checked : Checked p
         (rw (marks-from places lengths g checked (k + 1) more)
         (row_before_lem g old new (k * row_cells) here _ _ row
         (λ d h. row-right g old next_row here next _ d (label_at places lengths g checked (k + 1) more).left rest) rest))
+
+-- what a later step kept is kept from the start
+pub table_more : (g : ℕ) (first old new : List ℕ) (j k : ℕ) (ms : List Mark) → TableFrom g first old j ms → TableFrom g old new k ms
+    → TableFrom g first new k ms
+table_more g first old new j k ms before after =
+    record { table = after.table; beyond = after.beyond ∙ before.beyond; same_length = after.same_length ∙ before.same_length }

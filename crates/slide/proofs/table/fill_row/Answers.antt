@@ -1,7 +1,10 @@
 -- `slide::table::fill_row` meets its contract: after d turns the first d cells are right, and the scan may go on where it stopped.
 use native.Mathlib.Omega.{arith}
-use Rattle.slide.proofs.FilledRows.{found_within, scanned-more}
+use Rattle.slide.proofs.FilledRows.{found_within, scanned-none, scanned-more}
 use Rattle.slide.proofs.table.fill_row.Goals as goal
+
+pub loop-d-init : goal.loop-d-init
+loop-d-init c = (scanned-none _ _ _ _ _ _ _ (omega arith) (omega arith), omega arith)
 
 pub other_side-other-requires : goal.other_side-other-requires
 other_side-other-requires c =
