@@ -7,13 +7,13 @@ pub loop-i-init : goal.loop-i-init
 loop-i-init c = (omega arith, c.requires, omega arith, omega arith)
 
 pub overflow_add-total : goal.overflow_add-total
-overflow_add-total c = omega (arith, c.shared_slice_known-1.given c.loop-i.i)
+overflow_add-total c = omega (arith, c.type_inv.weights c.loop-i.i)
 
 pub loop-i-preserved : goal.loop-i-preserved
 loop-i-preserved c = (
   omega arith,
   omega arith,
-  omega (arith, c.shared_slice_known-1.given c.loop-i.i),
+  omega (arith, c.type_inv.weights c.loop-i.i),
   omega (arith, sum_step c.args.weights.now c.loop-i.i (omega arith)),
 )
 
