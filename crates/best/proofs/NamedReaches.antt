@@ -14,7 +14,7 @@ use mir.Syntax.{w16}
 use mir.Val.{to_z, of_z}
 use borrow.Author.Tests.{lt-ltb, le-ltb, eq-eqb, ne_eqb}
 use Rattle.geometry.specs.Dot.{dot, empty_reach}
-use Rattle.geometry.specs.Lists.{every}
+use Rattle.std.specs.List.{list_all}
 use Rattle.geometry.specs.Mark.{place_in_range_lem}
 use Rattle.geometry.specs.Strip.{Strip}
 use Rattle.geometry.specs.Position.{above, below, Direction, leftward, rightward, Position, unlabelled, at}
@@ -27,7 +27,7 @@ use Rattle.geometry.proofs.Dots.{InDots, fetched, range-dots, range-mag}
 use Rattle.best.specs.inner.Names.{name_of, last_after, reach_named, reach_at}
 
 -- of places that are all in their range, the dot that the code finds of the one that it reads, and the bounds of that dot
-module _ (zs : List ℤ) (i : ℕ) (good : every place_in_range_lem zs ≡ true) (inside : i < length zs) where
+module _ (zs : List ℤ) (i : ℕ) (good : list_all place_in_range_lem zs ≡ true) (inside : i < length zs) where
   pub dot-read : (found : ℕ) → found ≡ dot (to_z w16 (of_z w16 (get_or zs i (pos 0)))) → found ≡ dot (get_or zs i (pos 0))
   dot-read found is =
       is ∙ ap dot (fetched (get_or zs i (pos 0)) (range-mag (get_or zs i (pos 0)) (every-at place_in_range_lem zs (pos 0) i good inside)))

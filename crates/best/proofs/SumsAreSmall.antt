@@ -8,7 +8,7 @@ use Prim.Native.Nat.{ℕ, ◌*◌, ◌≤◌}
 use native.Mathlib.Omega.{arith}
 use lib.IntN.{ℤ}
 use lib.ListN.{length, drop, length-drop}
-use Rattle.geometry.specs.Lists.{every}
+use Rattle.std.specs.List.{list_all}
 use Rattle.geometry.specs.Mark.{Mark, weight_in_range_lem, most_weight}
 use Rattle.geometry.specs.Strip.{Strip, marks_of_lists, marks_of}
 use Rattle.geometry.specs.Position.{Position, unlabelled, at}
@@ -27,7 +27,7 @@ abbrev SmallWeights : List Mark → Type 0
 SmallWeights ms = Each (λ m. m.weight ≤ most_weight) ms
 
 -- so it is in a strip whose weights are in range
-weights-small : (zs : List ℤ) (ls ws : List ℕ) → every weight_in_range_lem ws ≡ true → SmallWeights (marks_of_lists zs ls ws)
+weights-small : (zs : List ℤ) (ls ws : List ℕ) → list_all weight_in_range_lem ws ≡ true → SmallWeights (marks_of_lists zs ls ws)
 unfolding marks_of_lists
 weights-small [] ls ws e = tt
 weights-small (z ∷ zs) [] ws e = tt

@@ -8,7 +8,7 @@ use mathlib.Core.Logic.{◌↔◌, ⊎_elim}
 use Prim.Native.Nat.{ℕ}
 use native.Mathlib.Omega.{arith}
 use Rattle.geometry.specs.Strip.{Strip}
-use Rattle.geometry.specs.Refusal.{accepted, refusal_number, no_placing, number_of}
+use Rattle.geometry.specs.Refusal.{accepted, refusal_number, NoPlacing, number_of}
 use Rattle.geometry.proofs.Split.{clash}
 use Rattle.full.specs.Full.{FullLent, full_checks, FullContract}
 use Rattle.best.specs.declared.answer.Best.{Best}
@@ -43,7 +43,7 @@ module _ {s : Strip} {gap : ℕ} {full_entry full_exit : FullLent} {number : ℕ
       → BestAgainstFull s gap full_entry full_exit best_entry best_exit (record { comparable = false; fits = false; sum = 0 })
   best-refuses nonzero = not-comparable (λ _ passed. nonzero (ran.best-ran.number_is ∙ ap number_of passed))
 
-  pub full_refuses : (number ≡ 0 → ⊥) → (number ≡ refusal_number no_placing → ⊥)
+  pub full_refuses : (number ≡ 0 → ⊥) → (number ≡ refusal_number NoPlacing → ⊥)
       → BestAgainstFull s gap full_entry full_exit best_entry best_exit (record { comparable = false; fits = false; sum = 0 })
   full_refuses nonzero not-eleven = not-comparable (λ passed _. ⊎_elim nonzero not-eleven (answers s gap full_entry full_exit number ran.full-ran passed))
 
@@ -51,7 +51,7 @@ module _ {s : Strip} {gap : ℕ} {full_entry full_exit : FullLent} {number : ℕ
   module _ (zero : answer.number ≡ 0) where
     -- what is answered of a comparable strip, whichever number the full pass gives
     comparable : (fits : Bool) → full_checks s gap full_entry ≡ accepted → (fits ≡ true) ↔ (number ≡ 0)
-        → (fits ≡ false) ↔ (number ≡ refusal_number no_placing)
+        → (fits ≡ false) ↔ (number ≡ refusal_number NoPlacing)
         → BestAgainstFull s gap full_entry full_exit best_entry best_exit (record { comparable = true; fits = fits; sum = answer.sum })
     comparable fits passed by-0 by-11 =
         record {
@@ -79,7 +79,7 @@ module _ {s : Strip} {gap : ℕ} {full_entry full_exit : FullLent} {number : ℕ
         comparable true (fits-at-0 s gap full_entry full_exit number ran.full-ran fitting).passed (λ _. fitting, λ _. refl)
         (λ no. clash refl no, λ eleven. absurd (omega arith))
 
-    pub full-finds-none : number ≡ refusal_number no_placing
+    pub full-finds-none : number ≡ refusal_number NoPlacing
         → BestAgainstFull s gap full_entry full_exit best_entry best_exit (record { comparable = true; fits = false; sum = answer.sum })
     full-finds-none eleven =
         comparable false (none-at-11 s gap full_entry full_exit number ran.full-ran eleven).0 (λ no. clash no refl, λ fitting. absurd (omega arith))

@@ -7,7 +7,7 @@ use Prim.Native.Nat.{ℕ}
 use native.Mathlib.Omega.{arith}
 use Rattle.geometry.specs.Strip.{marks_of}
 use Rattle.geometry.specs.Sliding.{slides_whole}
-use Rattle.geometry.specs.Refusal.{refusal_number, no_placing, accepted, number_of}
+use Rattle.geometry.specs.Refusal.{refusal_number, NoPlacing, accepted, number_of}
 use Rattle.geometry.proofs.TwoUnbeaten.{at-most-two-unbeaten, fitting-begins-unbeaten}
 use Rattle.slide.specs.Slide.{slide_verdict}
 use Rattle.demands.specs.Demands.{Demand1, Demand2, Demand3}
@@ -17,7 +17,7 @@ use Rattle.demands.proofs.BestAndFull.{best-chosen, best-and-full}
 use Rattle.demands.proofs.TripsByContracts.{not-read, strip-read, not_written, job-written, job-back, strip-back}
 
 -- the number of the slide pass past its checks
-slide-zero-or-11 : (slides : Bool) (n : ℕ) → n ≡ number_of (slide_verdict accepted slides) → (n ≡ 0) ⊎ (n ≡ refusal_number no_placing)
+slide-zero-or-11 : (slides : Bool) (n : ℕ) → n ≡ number_of (slide_verdict accepted slides) → (n ≡ 0) ⊎ (n ≡ refusal_number NoPlacing)
 slide-zero-or-11 true n e = inl e
 slide-zero-or-11 false n e = inr e
 

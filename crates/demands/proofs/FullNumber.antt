@@ -11,7 +11,7 @@ use lib.ListN.{length}
 use Rattle.geometry.specs.Strip.{Strip, marks_of, most_marks}
 use Rattle.geometry.specs.Position.{Position}
 use Rattle.geometry.specs.Placing.{IsPlacing, first_placing}
-use Rattle.geometry.specs.Refusal.{refusal_number, no_placing, Verdict, accepted, refused, number_of}
+use Rattle.geometry.specs.Refusal.{refusal_number, NoPlacing, Verdict, accepted, refused, number_of}
 use Rattle.geometry.proofs.Verdicts.{refusal-positive, pass-not-11}
 use Rattle.geometry.proofs.Words.{never-none}
 use Rattle.geometry.proofs.Whole.{placing-found, found-placing}
@@ -20,7 +20,7 @@ use Rattle.full.specs.Full.{work_named, FullLent, full_checks, full_verdict, Ful
 use Rattle.demands.specs.Demands.{FirstPlaced}
 
 -- past the checks
-zero-or-11 : (o : Option (List Position)) (n : ℕ) → n ≡ number_of (full_verdict accepted o) → (n ≡ 0) ⊎ (n ≡ refusal_number no_placing)
+zero-or-11 : (o : Option (List Position)) (n : ℕ) → n ≡ number_of (full_verdict accepted o) → (n ≡ 0) ⊎ (n ≡ refusal_number NoPlacing)
 zero-or-11 none n e = inr e
 zero-or-11 (some ps) n e = inl e
 
@@ -37,8 +37,8 @@ fits-by-0 accepted (some ps) e = record { passed = refl; placing = ps; is-first 
 fits-by-0 (refused r) o e = absurd (refusal-positive r e)
 
 -- number 11: the checks are passed, and there is none
-none-by-11 : (v : Verdict) (o : Option (List Position)) → (number_of v ≡ refusal_number no_placing → ⊥)
-    → number_of (full_verdict v o) ≡ refusal_number no_placing → (v ≡ accepted) × (o ≡ none)
+none-by-11 : (v : Verdict) (o : Option (List Position)) → (number_of v ≡ refusal_number NoPlacing → ⊥)
+    → number_of (full_verdict v o) ≡ refusal_number NoPlacing → (v ≡ accepted) × (o ≡ none)
 none-by-11 accepted none other e = (refl, refl)
 none-by-11 accepted (some ps) other e = absurd (omega arith)
 none-by-11 (refused r) o other e = absurd (other e)
@@ -53,7 +53,7 @@ module _ (s : Strip) (gap : ℕ) (lent left : FullLent) (number : ℕ) (call : F
   pub fits-at-0 : number ≡ 0 → Fits (full_checks s gap lent) first
   fits-at-0 zero = fits-by-0 (full_checks s gap lent) first (sym call.number_is ∙ zero)
 
-  pub none-at-11 : number ≡ refusal_number no_placing → (full_checks s gap lent ≡ accepted) × (first ≡ none)
+  pub none-at-11 : number ≡ refusal_number NoPlacing → (full_checks s gap lent ≡ accepted) × (first ≡ none)
   none-at-11 eleven =
       let checks = pass-not-11 most_marks s gap (length lent.positions) work_named (length lent.work) in
       none-by-11 (full_checks s gap lent) first checks (sym call.number_is ∙ eleven)
@@ -69,12 +69,12 @@ module _ (s : Strip) (gap : ℕ) (lent left : FullLent) (number : ℕ) (call : F
         is-first = λ other placed. found-is-first gap (marks_of s) f.placing other f.is-first placed;
       }
 
-  pub none-listed : number ≡ refusal_number no_placing → left.positions ≡ lent.positions
+  pub none-listed : number ≡ refusal_number NoPlacing → left.positions ≡ lent.positions
   none-listed eleven = rw ((none-at-11 eleven).0, (none-at-11 eleven).1) at call.positions-are
 
   module _ (passed : full_checks s gap lent ≡ accepted) where
     -- past the checks the number is 0 or 11
-    pub answers : (number ≡ 0) ⊎ (number ≡ refusal_number no_placing)
+    pub answers : (number ≡ 0) ⊎ (number ≡ refusal_number NoPlacing)
     answers = zero-or-11 first number (rw passed at call.number_is)
 
     -- it is 0 exactly if there is a first placing, and 11 exactly if there is no placing at all
@@ -84,7 +84,7 @@ module _ (s : Strip) (gap : ℕ) (lent left : FullLent) (number : ℕ) (call : F
       λ found. ⊎_elim (λ zero. zero) (λ eleven. absurd (found (none-at-11 eleven).1)) answers,
     )
 
-    pub none-exactly : (number ≡ refusal_number no_placing) ↔ ((ps : List Position) → IsPlacing gap (marks_of s) ps → ⊥)
+    pub none-exactly : (number ≡ refusal_number NoPlacing) ↔ ((ps : List Position) → IsPlacing gap (marks_of s) ps → ⊥)
     none-exactly = (
       λ eleven ps placed.
           let r = placing-found gap (marks_of s) ps placed.is_free placed.labels-all in

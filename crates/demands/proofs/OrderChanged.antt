@@ -10,10 +10,10 @@ use native.Mathlib.Omega.{arith}
 use lib.IntN.{pos}
 use lib.ListN.{length, replicate}
 use borrow.Author.Tests.{leb-true, le-leb}
-use Rattle.geometry.specs.Lists.{every}
+use Rattle.std.specs.List.{list_all}
 use Rattle.geometry.specs.Mark.{rising}
 use Rattle.geometry.specs.Strip.{Strip, strip, most_marks, most_short}
-use Rattle.geometry.specs.Refusal.{Verdict, refused, too_many_marks, bad_mark}
+use Rattle.geometry.specs.Refusal.{Verdict, refused, TooManyMarks, BadMark}
 use Rattle.geometry.specs.Entry.{same_lengths_lem, good_marks_lem, entry}
 use Rattle.geometry.specs.Pass.{gap_checks, pass_verdict}
 use Rattle.geometry.proofs.Verdicts.{one-passed, pass-one}
@@ -47,7 +47,7 @@ pub record LongAndBad (s : Strip) (g : ℕ) : Type 0 where
 
 -- for one call of slide or best: 7 before and 8 now for these, and no change for any other
 pub record ChangesThese (s : Strip) (g : ℕ) (before now : Verdict) : Type 0 where
-  pub these : LongAndBad s g → (before ≡ refused too_many_marks) × (now ≡ refused bad_mark)
+  pub these : LongAndBad s g → (before ≡ refused TooManyMarks) × (now ≡ refused BadMark)
   pub no-others : (LongAndBad s g → ⊥) → now ≡ before
 
 pub record OrderChanged : Type 0 where
@@ -100,11 +100,11 @@ order-changed =
       writer-as-before = entry-same;
       slide-changes = λ s g lent. changes s g _ _ _;
       best-changes = λ s g lent. changes s g _ _ _;
-      slide-answers = λ s g lent left number call h. slide-refused s g bad_mark lent left number call ((changes s g _ _ _).these h).1;
-      best-answers = λ s g lent left answer call h. best-refused s g bad_mark lent left answer call ((changes s g _ _ _).these h).1;
+      slide-answers = λ s g lent left number call h. slide-refused s g BadMark lent left number call ((changes s g _ _ _).these h).1;
+      best-answers = λ s g lent left answer call h. best-refused s g BadMark lent left answer call ((changes s g _ _ _).these h).1;
     }
 
 -- There are such strips: 61 marks with labels of no length.
 pub there-are-such : LongAndBad (strip (replicate 61 (pos 0)) (replicate 61 0) (replicate 61 1)) 0
-unfolding every rising
+unfolding rising
 there-are-such = record { past-6 = refl; past-12 = omega arith; from-61 = omega arith; to-4000 = omega arith; one-bad = refl }

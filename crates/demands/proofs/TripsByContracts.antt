@@ -8,7 +8,7 @@ use Prim.Native.Nat.{ℕ, ◌≤◌, ◌<◌}
 use native.Mathlib.Omega.{arith}
 use lib.ListN.{length, take}
 use Rattle.geometry.specs.Strip.{Strip, strip, first_marks}
-use Rattle.geometry.specs.Refusal.{Refusal, refusal_number, list_too_short}
+use Rattle.geometry.specs.Refusal.{Refusal, refusal_number, ListTooShort}
 use Rattle.geometry.proofs.Lent.{same-three}
 use Rattle.job.specs.Number.{Bytes}
 use Rattle.job.specs.Outcome.{given, refusal}
@@ -69,7 +69,7 @@ module _ (job : List ℕ) (bytes : Bytes job) (lent left : Strip) (read : Read) 
       job-written said.found output copy made written_back job
       (read-then-written (shortest lent) (length output) job said.found bytes said.says room)
 
-  pub too-long-back : length output < length job → NotWritten (refusal_number list_too_short) output copy made
+  pub too-long-back : length output < length job → NotWritten (refusal_number ListTooShort) output copy made
   too-long-back short =
       let same = same-job (shortest lent) job said.found said.says bytes in
       let q = job-too-long (length output) said.found said.takes (rw same short) in
@@ -95,8 +95,8 @@ module _ (s : Strip) (output job : List ℕ) (made : Written) (call : WriteContr
   pub strip-back : length s.places ≤ shortest lent → StripRead s lent left read
   strip-back enough = strip-read wrote.job lent left read read_back s (says_back (shortest lent) enough)
 
-  pub too-short-back : shortest lent < length s.places → NotRead (refusal_number list_too_short) lent left read
+  pub too-short-back : shortest lent < length s.places → NotRead (refusal_number ListTooShort) lent left read
   too-short-back short =
       let count = length s.places in
-      not-read wrote.job lent left read read_back list_too_short
+      not-read wrote.job lent left read read_back ListTooShort
       (read-too-short count (shortest lent) wrote.job s (says_back count (omega arith)) short)

@@ -3,7 +3,7 @@ use Rattle.std.specs.Prelude.{◌≡◌, ◌↔◌, true, false, ℕ}
 use Rattle.std.proofs.Math.Option.{none}
 use Rattle.geometry.specs.Strip.{Strip, marks_of}
 use Rattle.geometry.specs.Placing.{first_placing, best_sum}
-use Rattle.geometry.specs.Refusal.{accepted, refusal_number, no_placing}
+use Rattle.geometry.specs.Refusal.{accepted, refusal_number, NoPlacing}
 use Rattle.full.specs.Full.{FullLent, full_checks, FullContract}
 use Rattle.best.specs.declared.answer.Best.{Best}
 use Rattle.best.specs.Best.{BestLent, best_checks, BestContract}
@@ -14,7 +14,7 @@ use Rattle.demands.specs.declared.answer.Compared.{Compared}
 pub record Agreement (s : Strip) (gap number : ℕ) (entry exit : BestLent) (answer : Best) (r : Compared) : Type 0 where
   -- "the full pass then finds a fit if it gives 0, and none if it gives 11"
   pub fits-exactly : (r.fits ≡ true) ↔ (number ≡ 0)
-  pub none-exactly : (r.fits ≡ false) ↔ (number ≡ refusal_number no_placing)
+  pub none-exactly : (r.fits ≡ false) ↔ (number ≡ refusal_number NoPlacing)
   -- "a strip fits if it has one", a placing
   pub fits-a-placing : (r.fits ≡ true) ↔ (first_placing gap (marks_of s) ≡ none → ⊥)
   -- the sum is the best pass's, which no overlap-free choice exceeds

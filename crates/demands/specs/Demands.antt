@@ -10,7 +10,7 @@ use Rattle.geometry.specs.Overlap.{free, all_labelled}
 use Rattle.geometry.specs.Placing.{IsPlacing, NotAfter, sum_of}
 use Rattle.geometry.specs.Sliding.{Slides}
 use Rattle.geometry.specs.Layout.{unbeaten_count, BeginsUnbeaten}
-use Rattle.geometry.specs.Refusal.{Refusal, refusal_number, no_placing, accepted, refused}
+use Rattle.geometry.specs.Refusal.{Refusal, refusal_number, NoPlacing, accepted, refused}
 use Rattle.geometry.specs.Entry.{entry}
 use Rattle.geometry.specs.Pass.{written, cleared}
 use Rattle.full.specs.Full as full
@@ -65,10 +65,10 @@ pub record Demand1 : Type 0 where
       → full_checks s gap lent ≡ refused r → (number ≡ refusal_number r) × (left ≡ lent)
   -- past them "An accepted call gives number 0", and the one refusal that is left is "at the end: 11 no placing exists"
   pub full-answers : (s : Strip) (gap : ℕ) (lent left : FullLent) (number : ℕ) → FullContract s gap lent left number
-      → full_checks s gap lent ≡ accepted → (number ≡ 0) ⊎ (number ≡ refusal_number no_placing)
+      → full_checks s gap lent ≡ accepted → (number ≡ 0) ⊎ (number ≡ refusal_number NoPlacing)
   -- which leaves the positions as they were
   pub full-at-11 : (s : Strip) (gap : ℕ) (lent left : FullLent) (number : ℕ) → FullContract s gap lent left number
-      → full_checks s gap lent ≡ accepted → number ≡ refusal_number no_placing → left.positions ≡ lent.positions
+      → full_checks s gap lent ≡ accepted → number ≡ refusal_number NoPlacing → left.positions ≡ lent.positions
   -- "Once checks 6 to 10 are passed, the named part of the work area ends as zeros, also at refusal 11; the rest of it is unchanged."
   pub full-clears : (s : Strip) (gap : ℕ) (lent left : FullLent) (number : ℕ) → FullContract s gap lent left number
       → full_checks s gap lent ≡ accepted → left.work ≡ cleared full.work_named (pos 0) lent.work
@@ -77,10 +77,10 @@ pub record Demand1 : Type 0 where
       → slide_checks s gap lent ≡ refused r → (number ≡ refusal_number r) × (left ≡ lent)
   -- past them 0 or 11
   pub slide-answers : (s : Strip) (gap : ℕ) (lent left : SlideLent) (number : ℕ) → SlideContract s gap lent left number
-      → slide_checks s gap lent ≡ accepted → (number ≡ 0) ⊎ (number ≡ refusal_number no_placing)
+      → slide_checks s gap lent ≡ accepted → (number ≡ 0) ⊎ (number ≡ refusal_number NoPlacing)
   -- 11 leaves both answer lists as they were
   pub slide-at-11 : (s : Strip) (gap : ℕ) (lent left : SlideLent) (number : ℕ) → SlideContract s gap lent left number
-      → slide_checks s gap lent ≡ accepted → number ≡ refusal_number no_placing → (left.sides ≡ lent.sides) × (left.edges ≡ lent.edges)
+      → slide_checks s gap lent ≡ accepted → number ≡ refusal_number NoPlacing → (left.sides ≡ lent.sides) × (left.edges ≡ lent.edges)
   -- the named part of the work area ends as zeros, also at 11
   pub slide-clears : (s : Strip) (gap : ℕ) (lent left : SlideLent) (number : ℕ) → SlideContract s gap lent left number
       → slide_checks s gap lent ≡ accepted → left.work ≡ cleared slide.work_named 0 lent.work
@@ -117,14 +117,14 @@ pub record Demand2 : Type 0 where
   -- "11 no placing exists", and only then
   pub full-none-exactly : (s : Strip) (gap : ℕ) (lent left : FullLent) (number : ℕ) → FullContract s gap lent left number
       → full_checks s gap lent ≡ accepted
-      → (number ≡ refusal_number no_placing) ↔ ((ps : List Position) → IsPlacing gap (marks_of s) ps → ⊥)
+      → (number ≡ refusal_number NoPlacing) ↔ ((ps : List Position) → IsPlacing gap (marks_of s) ps → ⊥)
   -- "a side (0 above, 1 below) and a left edge for each mark", no two labels overlapping, "every label is as far left as it goes"
   pub slide-places : (s : Strip) (gap : ℕ) (lent left : SlideLent) (number : ℕ) → SlideContract s gap lent left number
       → number ≡ 0 → Placed gap (marks_of s) lent left
   -- 11 if no placing exists "whose left edges are whole numbers of nth parts of a dot, for any whole n from 1", and only then
   pub slide-none-exactly : (s : Strip) (gap : ℕ) (lent left : SlideLent) (number : ℕ) → SlideContract s gap lent left number
       → slide_checks s gap lent ≡ accepted
-      → (number ≡ refusal_number no_placing) ↔ ((denominator : ℕ) → 1 ≤ denominator → Slides gap denominator (marks_of s) → ⊥)
+      → (number ≡ refusal_number NoPlacing) ↔ ((denominator : ℕ) → 1 ≤ denominator → Slides gap denominator (marks_of s) → ⊥)
   -- a job that the reader accepts, read and written back, has the same bytes
   pub job-there-and-back : (job : List ℕ) (lent left : Strip) (read : Read) (output copy : List ℕ) (made : Written) → Bytes job
       → ReadContract job lent left read → read.number ≡ 0 → WriteContract (first_marks read.count left) output copy made

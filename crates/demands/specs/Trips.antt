@@ -2,7 +2,7 @@
 -- accepts, written and read back, has the same marks.
 use Rattle.std.specs.Prelude.{◌≡◌, List, ℕ, ◌≤◌, ◌<◌, length}
 use Rattle.geometry.specs.Strip.{Strip}
-use Rattle.geometry.specs.Refusal.{refusal_number, list_too_short}
+use Rattle.geometry.specs.Refusal.{refusal_number, ListTooShort}
 use Rattle.job.specs.Calls.{shortest, ReadContract, WriteContract}
 use Rattle.job.specs.declared.answer.Read.{Read}
 use Rattle.job.specs.declared.answer.Written.{Written}
@@ -23,7 +23,7 @@ pub record JobThereAndBack (job : List ℕ) (entry exit : Strip) (output copy : 
   -- where it refuses, nothing is written and its number is handed on
   pub where-refused : (r.read ≡ 0 → ⊥) → NotWritten r.read output copy (written_of r)
   -- "9 .. the job longer than the output"
-  pub where-too-long : r.read ≡ 0 → length output < length job → NotWritten (refusal_number list_too_short) output copy (written_of r)
+  pub where-too-long : r.read ≡ 0 → length output < length job → NotWritten (refusal_number ListTooShort) output copy (written_of r)
   -- the same bytes
   pub there_and_back : r.read ≡ 0 → length job ≤ length output → JobWritten job output copy (written_of r)
 
@@ -34,6 +34,6 @@ pub record MarksThereAndBack (s : Strip) (output job : List ℕ) (entry exit : S
   -- where it refuses, nothing is read and its number is handed on
   pub where-refused : (r.written ≡ 0 → ⊥) → NotRead r.written entry exit (read_of r)
   -- "9 a lent list shorter than the count"
-  pub where-too-short : r.written ≡ 0 → shortest entry < length s.places → NotRead (refusal_number list_too_short) entry exit (read_of r)
+  pub where-too-short : r.written ≡ 0 → shortest entry < length s.places → NotRead (refusal_number ListTooShort) entry exit (read_of r)
   -- the same marks
   pub there_and_back : r.written ≡ 0 → length s.places ≤ shortest entry → StripRead s entry exit (read_of r)

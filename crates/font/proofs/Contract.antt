@@ -8,12 +8,13 @@ use native.Mathlib.Omega.{arith}
 use lib.Dec.{leb}
 use lib.ListN.{length}
 use borrow.Author.Tests.{le-leb, lt-leb, leb-true, eqb-true}
-use Rattle.geometry.specs.Lists.{every, sum_list}
+use Rattle.geometry.specs.Lists.{sum_list}
+use Rattle.std.specs.List.{list_all}
 use Rattle.geometry.specs.Mark.{most_length, length_in_range_lem}
 use Rattle.geometry.specs.Strip.{most_marks}
 use Rattle.geometry.specs.Pass.{written}
 use Rattle.geometry.specs.Refusal.{Check, Verdict, accepted, refused, number_of, refusal_number, at_most, after_check, first_failure}
-use Rattle.geometry.specs.Refusal.{too_many_marks, bad_mark, list_too_short}
+use Rattle.geometry.specs.Refusal.{TooManyMarks, BadMark, ListTooShort}
 use Rattle.geometry.specs.inner.Checks.{number_of_checks}
 use Rattle.geometry.proofs.Split.{one-to}
 use Rattle.geometry.proofs.Verdicts.{zero-accepted, number-stands, number-passes, first-passed, one-passed, pass-one}
@@ -61,7 +62,7 @@ module _ (text : List ℕ) where
   refused-early is some = refused-by (number-stands early late is some ∙ as-made) some
 
   module _ {first : ℕ} (is : first ≡ number_of_checks early) (none : first ≡ 0) where
-    letters-passed : (every in_font_lem text ≡ true) × (first_failure (length_check (count_fits_lem (length text)) ∷ []) ≡ accepted)
+    letters-passed : (list_all in_font_lem text ≡ true) × (first_failure (length_check (count_fits_lem (length text)) ∷ []) ≡ accepted)
     letters-passed = first-passed (letter_check text) _ (zero-accepted (first_failure early) (sym is ∙ none))
 
     count-within : (1 ≤ length text) × (length text ≤ most_bytes)
@@ -77,7 +78,7 @@ module _ (text : List ℕ) where
     late-decides : {n : ℕ} → n ≡ number_of_checks late → n ≡ number_of (measure_verdict text)
     late-decides second = number-passes early late is none second ∙ as-made
 
-    pub refused-late : most_length < text_width text → MeasureContract text (record { number = refusal_number bad_mark; length = 0 })
+    pub refused-late : most_length < text_width text → MeasureContract text (record { number = refusal_number BadMark; length = 0 })
     refused-late over =
         refused-by (late-decides (sym (ap number_of (fail-one _ (range-is ∙ lt-leb (text_width text) most_length over))))) (λ zero. omega arith)
 
@@ -104,13 +105,13 @@ module _ (text : List ℕ) where
 module _ (texts counts : List ℕ) (room : ℕ) where
   -- the checks of `check_texts` as it makes them: of the lists, then those that come before widths are asked for, then the rest
   abbrev pub of_lists : List Check
-  of_lists = sum_check texts counts ∷ at_most (length counts) most_marks too_many_marks ∷ []
+  of_lists = sum_check texts counts ∷ at_most (length counts) most_marks TooManyMarks ∷ []
 
   abbrev pub of_bytes : List Check
-  of_bytes = letter_check texts ∷ length_check (every count_fits_lem counts) ∷ []
+  of_bytes = letter_check texts ∷ length_check (list_all count_fits_lem counts) ∷ []
 
   abbrev pub of_lengths : List Check
-  of_lengths = length_check (every length_in_range_lem (lengths_of counts texts)) ∷ at_most (length counts) room list_too_short ∷ []
+  of_lengths = length_check (list_all length_in_range_lem (lengths_of counts texts)) ∷ at_most (length counts) room ListTooShort ∷ []
 
   pub refused-lists : {n : ℕ} → n ≡ number_of_checks of_lists → (n ≡ 0 → ⊥) → n ≡ number_of (lengths_verdict texts counts room)
   unfolding lengths_verdict
@@ -128,7 +129,7 @@ module _ (texts counts : List ℕ) (room : ℕ) where
     later-decides later =
         number-passes of_lists (letter_check texts ∷ of_lengths) lists-are lists-passed
         (later
-        ∙ in-two-parts texts (every count_fits_lem counts) (every length_in_range_lem (lengths_of counts texts)) _ (counts-of-good counts texts adds-up))
+        ∙ in-two-parts texts (list_all count_fits_lem counts) (list_all length_in_range_lem (lengths_of counts texts)) _ (counts-of-good counts texts adds-up))
 
     pub refused-bytes : {n : ℕ} → n ≡ number_of_checks of_bytes → (n ≡ 0 → ⊥) → n ≡ number_of (lengths_verdict texts counts room)
     refused-bytes is some = later-decides (number-stands of_bytes of_lengths is some)
@@ -140,7 +141,7 @@ module _ (texts counts : List ℕ) (room : ℕ) where
           record {
             adds-up = adds-up;
             letters-good = letters.0;
-            counts-good = one-passed (length_check (every count_fits_lem counts)) letters.1;
+            counts-good = one-passed (length_check (list_all count_fits_lem counts)) letters.1;
           }
 
       pub lengths-decide : {n : ℕ} → n ≡ number_of_checks of_lengths → n ≡ number_of (lengths_verdict texts counts room)
@@ -148,17 +149,17 @@ module _ (texts counts : List ℕ) (room : ℕ) where
 
   -- past all checks the texts can be measured, their lengths are in range, and the list is long enough
   pub accepted-parts : lengths_verdict texts counts room ≡ accepted
-      → ReadableTexts texts counts × (every length_in_range_lem (lengths_of counts texts) ≡ true) × (length counts ≤ room)
+      → ReadableTexts texts counts × (list_all length_in_range_lem (lengths_of counts texts) ≡ true) × (length counts ≤ room)
   unfolding lengths_verdict
   accepted-parts passed =
       let six = first-passed (sum_check texts counts) _ passed in
-      let seven = first-passed (at_most (length counts) most_marks too_many_marks) _ six.1 in
+      let seven = first-passed (at_most (length counts) most_marks TooManyMarks) _ six.1 in
       let thirteen = first-passed (letter_check texts) _ seven.1 in
-      let eight = first-passed (length_check (every length_in_range_lem (lengths_of counts texts))) _ thirteen.1 in
+      let eight = first-passed (length_check (list_all length_in_range_lem (lengths_of counts texts))) _ thirteen.1 in
       let sum = eqb-true (sum_list counts) (length texts) six.0 in (
         record { adds-up = sum; letters-good = thirteen.0; counts-good = counts-of-good counts texts sum eight.0 },
         eight.0,
-        leb-true (length counts) room (one-passed (at_most (length counts) room list_too_short) eight.1),
+        leb-true (length counts) room (one-passed (at_most (length counts) room ListTooShort) eight.1),
       )
 
 module _ (texts counts entry : List ℕ) where
@@ -175,7 +176,7 @@ module _ (texts counts entry : List ℕ) where
     passed : lengths_verdict texts counts (length entry) ≡ accepted
     passed = zero-accepted (lengths_verdict texts counts (length entry)) (sym is ∙ none)
 
-    pub ready-to-fill : ReadableTexts texts counts × (every length_in_range_lem (lengths_of counts texts) ≡ true) × (length counts ≤ length entry)
+    pub ready-to-fill : ReadableTexts texts counts × (list_all length_in_range_lem (lengths_of counts texts) ≡ true) × (length counts ≤ length entry)
     ready-to-fill = accepted-parts texts counts (length entry) passed
 
     pub filled-texts : {exit : List ℕ} → exit ≡ written (lengths_of counts texts) entry → LengthsContract texts counts entry exit 0

@@ -8,7 +8,8 @@ use native.Mathlib.Numerals.{add-one}
 use native.Mathlib.Omega.{arith}
 use lib.ListN.{length, get_or, take, drop, length-drop, take-append-drop, drop_of_length-le}
 use lib.Seq.{drop-cons, drop-length, length-take-le}
-use Rattle.geometry.specs.Lists.{every, sum_list}
+use Rattle.geometry.specs.Lists.{sum_list}
+use Rattle.std.specs.List.{list_all}
 use Rattle.geometry.specs.Mark.{length_in_range_lem}
 use Rattle.geometry.proofs.Accepted.{first_good, rest-good}
 use Rattle.geometry.proofs.Split.{both}
@@ -31,16 +32,16 @@ length-lengths [] bytes = refl
 length-lengths (n ∷ counts) bytes = ap suc (length-lengths counts (drop n bytes))
 
 -- where all lengths are in range, all counts fit
-pub counts-of-good : (counts bytes : List ℕ) → sum_list counts ≡ length bytes → every length_in_range_lem (lengths_of counts bytes) ≡ true
-    → every count_fits_lem counts ≡ true
-unfolding every texts_of sum_list
+pub counts-of-good : (counts bytes : List ℕ) → sum_list counts ≡ length bytes → list_all length_in_range_lem (lengths_of counts bytes) ≡ true
+    → list_all count_fits_lem counts ≡ true
+unfolding texts_of sum_list
 counts-of-good [] bytes sum good = refl
 counts-of-good (n ∷ counts) bytes sum good =
     let width = text_width (take n bytes) in
     let others = lengths_of counts (drop n bytes) in
     let here = first_good length_in_range_lem width others good in
     let rest = rest-good length_in_range_lem width others good in
-    both (count_fits_lem n) (every count_fits_lem counts)
+    both (count_fits_lem n) (list_all count_fits_lem counts)
     (subst (λ (k : ℕ). count_fits_lem k ≡ true) (length-take-le n bytes (omega arith)) (count-of-good (take n bytes) here))
     (counts-of-good counts (drop n bytes) (omega (arith, length-drop n bytes)) rest)
 

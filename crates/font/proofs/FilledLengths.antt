@@ -5,7 +5,7 @@ use mathlib.Core.Bool.{true}
 use mathlib.Core.List.{List, [], ◌∷◌, flatten}
 use Prim.Native.Nat.{ℕ}
 use lib.ListN.{take, drop}
-use Rattle.geometry.specs.Lists.{every}
+use Rattle.std.specs.List.{list_all}
 use Rattle.geometry.specs.Mark.{length_in_range_lem}
 use Rattle.geometry.specs.Refusal.{accepted}
 use Rattle.geometry.specs.inner.Each.{Each}
@@ -19,13 +19,13 @@ use Rattle.font.proofs.CutTexts.{texts-whole}
 use Rattle.font.proofs.Contract.{accepted-parts}
 
 -- a text with good letters and a length in range is measured
-measures : (text : List ℕ) → every in_font_lem text ≡ true → length_in_range_lem (text_width text) ≡ true → measure_verdict text ≡ accepted
+measures : (text : List ℕ) → list_all in_font_lem text ≡ true → length_in_range_lem (text_width text) ≡ true → measure_verdict text ≡ accepted
 unfolding measure_verdict
 measures text letters range =
     let width = length_check (length_in_range_lem (text_width text)) in
     all-passed (letter_check text ∷ []) (width ∷ []) (pass-one (letter_check text) letters) (pass-one width range)
 
-each-measures : (counts bytes : List ℕ) → every in_font_lem bytes ≡ true → every length_in_range_lem (lengths_of counts bytes) ≡ true
+each-measures : (counts bytes : List ℕ) → list_all in_font_lem bytes ≡ true → list_all length_in_range_lem (lengths_of counts bytes) ≡ true
     → Each (λ text. measure_verdict text ≡ accepted) (texts_of counts bytes)
 unfolding texts_of
 each-measures [] bytes letters ranges = tt
@@ -44,5 +44,5 @@ module _ (texts counts : List ℕ) (room : ℕ) (passed : lengths_verdict texts 
   pub no-byte-left : flatten (texts_of counts texts) ≡ texts
   no-byte-left = texts-whole counts texts (accepted-parts texts counts room passed).0.adds-up
 
-  pub lengths-in-range : every length_in_range_lem (lengths_of counts texts) ≡ true
+  pub lengths-in-range : list_all length_in_range_lem (lengths_of counts texts) ≡ true
   lengths-in-range = (accepted-parts texts counts room passed).1

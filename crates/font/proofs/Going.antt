@@ -8,7 +8,8 @@ use native.Mathlib.Numerals.{add-one}
 use native.Mathlib.Omega.{arith}
 use lib.ListN.{length, get_or, take, drop, set, length-drop, length-set}
 use lib.Seq.{drop-cons, drop-length, drop-drop, length-take-le, append_snoc}
-use Rattle.geometry.specs.Lists.{every, sum_list}
+use Rattle.geometry.specs.Lists.{sum_list}
+use Rattle.std.specs.List.{list_all}
 use Rattle.geometry.specs.Mark.{most_length, length_in_range_lem}
 use Rattle.geometry.specs.Pass.{written}
 use Rattle.geometry.proofs.Accepted.{first_good, rest-good}
@@ -39,15 +40,15 @@ module _ (texts counts : List ℕ) (at i : ℕ) (going : Going texts counts at i
     counts-next : drop i counts ≡ next ∷ drop (i + 1) counts
     counts-next = rw add-one (drop-cons counts i 0 h)
 
-    counts-fit : every count_fits_lem (next ∷ drop (i + 1) counts) ≡ true
-    counts-fit = subst (λ (l : List ℕ). every count_fits_lem l ≡ true) counts-next going.left.counts-good
+    counts-fit : list_all count_fits_lem (next ∷ drop (i + 1) counts) ≡ true
+    counts-fit = subst (λ (l : List ℕ). list_all count_fits_lem l ≡ true) counts-next going.left.counts-good
 
     next_fits : (1 ≤ next) × (next ≤ most_bytes)
     next_fits = one-to most_bytes next (first_good count_fits_lem next (drop (i + 1) counts) counts-fit)
 
-    letters-left : every in_font_lem (drop (at + next) texts) ≡ true
+    letters-left : list_all in_font_lem (drop (at + next) texts) ≡ true
     letters-left =
-        subst (λ (l : List ℕ). every in_font_lem l ≡ true) (drop-drop next at texts) (every_drop in_font_lem next (drop at texts) going.left.letters-good)
+        subst (λ (l : List ℕ). list_all in_font_lem l ≡ true) (drop-drop next at texts) (every_drop in_font_lem next (drop at texts) going.left.letters-good)
 
     sum_left : sum_list (drop (i + 1) counts) ≡ length (drop (at + next) texts)
     sum_left = omega (arith, end-within, going.left.adds-up, sum-next counts i h, length-drop at texts, length-drop (at + next) texts)
@@ -86,16 +87,15 @@ module _ (texts counts : List ℕ) (at i : ℕ) (going : Going texts counts at i
       lengths-next = rw (text-long, is, counts-next, ← drop-drop next at texts) refl
 
       -- so the test of all that are left is the test of the first, and then that of the rest
-      tests_left : every length_in_range_lem (lengths_left texts counts at i)
-          ≡ (length_in_range_lem (text_width text) && every length_in_range_lem (lengths_left texts counts (at + length text) (i + 1)))
-      unfolding every
-      tests_left = ap (every length_in_range_lem) lengths-next
+      tests_left : list_all length_in_range_lem (lengths_left texts counts at i)
+          ≡ (length_in_range_lem (text_width text) && list_all length_in_range_lem (lengths_left texts counts (at + length text) (i + 1)))
+      tests_left = ap (list_all length_in_range_lem) lengths-next
 
-      pub left-fails : length_in_range_lem (text_width text) ≡ false → every length_in_range_lem (lengths_left texts counts at i) ≡ false
+      pub left-fails : length_in_range_lem (text_width text) ≡ false → list_all length_in_range_lem (lengths_left texts counts at i) ≡ false
       left-fails bad = tests_left ∙ rw bad refl
 
       pub left-passes : length_in_range_lem (text_width text) ≡ true
-          → every length_in_range_lem (lengths_left texts counts at i) ≡ every length_in_range_lem (lengths_left texts counts (at + length text) (i + 1))
+          → list_all length_in_range_lem (lengths_left texts counts at i) ≡ list_all length_in_range_lem (lengths_left texts counts (at + length text) (i + 1))
       left-passes good = tests_left ∙ rw good refl
 
   -- at the end none is left
@@ -106,14 +106,14 @@ module _ (texts counts : List ℕ) (at i : ℕ) (going : Going texts counts at i
 -- a loop that fills a list with the lengths: those written and those that are left are all of them
 pub record Filling (texts counts entry list : List ℕ) (at i : ℕ) : Type 0 where
   pub going : Going texts counts at i
-  pub left-good : every length_in_range_lem (lengths_left texts counts at i) ≡ true
+  pub left-good : list_all length_in_range_lem (lengths_left texts counts at i) ≡ true
   pub so_far : take i list ++ lengths_left texts counts at i ≡ lengths_of counts texts
   pub rest-kept : drop i list ≡ drop i entry
   pub long : length list ≡ length entry
   pub roomy : length counts ≤ length entry
 
 module _ (texts counts entry : List ℕ) where
-  pub filling-starts : ReadableTexts texts counts → every length_in_range_lem (lengths_of counts texts) ≡ true → length counts ≤ length entry
+  pub filling-starts : ReadableTexts texts counts → list_all length_in_range_lem (lengths_of counts texts) ≡ true → length counts ≤ length entry
       → Filling texts counts entry entry 0 0
   filling-starts readable good roomy =
       record { going = going-starts texts counts readable; left-good = good; so_far = refl; rest-kept = refl; long = refl; roomy = roomy }
@@ -126,8 +126,8 @@ module _ (texts counts entry : List ℕ) where
       next-is : lengths_left texts counts at i ≡ text_width text ∷ rest
       next-is = lengths-next texts counts at i filling.going h is
 
-      next-good : every length_in_range_lem (text_width text ∷ rest) ≡ true
-      next-good = subst (λ (l : List ℕ). every length_in_range_lem l ≡ true) next-is filling.left-good
+      next-good : list_all length_in_range_lem (text_width text ∷ rest) ≡ true
+      next-good = subst (λ (l : List ℕ). list_all length_in_range_lem l ≡ true) next-is filling.left-good
 
       -- the next length has room in a byte
       pub next_small : text_width text ≤ most_length

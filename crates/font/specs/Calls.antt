@@ -1,10 +1,11 @@
 -- What the three calls settle: the number, the length or the count, and the length list at exit.
 use Rattle.std.specs.Prelude.{ℕ, ◌≡◌, Bool, List, [], ◌∷◌, eqb, length}
-use Rattle.geometry.specs.Lists.{every, sum_list}
+use Rattle.geometry.specs.Lists.{sum_list}
+use Rattle.std.specs.List.{list_all}
 use Rattle.geometry.specs.Mark.{length_in_range_lem}
 use Rattle.geometry.specs.Strip.{most_marks}
 use Rattle.geometry.specs.Refusal.{Check, Verdict, accepted, refused, number_of, at_most, first_failure}
-use Rattle.geometry.specs.Refusal.{lists_unequal, too_many_marks, bad_mark, list_too_short, stray_byte}
+use Rattle.geometry.specs.Refusal.{ListsUnequal, TooManyMarks, BadMark, ListTooShort, StrayByte}
 use Rattle.geometry.specs.Pass.{written}
 use Rattle.font.specs.Letters.{in_font_lem}
 use Rattle.font.specs.Text.{text_width, IsLongest, longest_beginning_lem, lengths_of}
@@ -13,11 +14,11 @@ use Rattle.font.specs.declared.answer.Beginning.{Beginning}
 
 -- "13, a byte outside 32 to 126, tested before the width": over all bytes that are handed over
 abbrev pub letter_check : List ℕ → Check
-letter_check bytes = record { passes = every in_font_lem bytes; otherwise = stray_byte }
+letter_check bytes = record { passes = list_all in_font_lem bytes; otherwise = StrayByte }
 
 -- "a length of 0 or over 240 is 8"
 abbrev pub length_check : Bool → Check
-length_check good = record { passes = good; otherwise = bad_mark }
+length_check good = record { passes = good; otherwise = BadMark }
 
 -- "Every refusal gives its number, with sum, count and length 0"
 abbrev pub value_after : Verdict → ℕ → ℕ
@@ -44,17 +45,17 @@ pub record BeginningContract (text : List ℕ) (r : Beginning) : Type 0 where
 
 -- "6 (the counts do not add up to the byte list)"
 abbrev pub sum_check : List ℕ → List ℕ → Check
-sum_check texts counts = record { passes = eqb (sum_list counts) (length texts); otherwise = lists_unequal }
+sum_check texts counts = record { passes = eqb (sum_list counts) (length texts); otherwise = ListsUnequal }
 
 -- "The filling call tests 6 [..], 7 (over 4,000 texts), 13 over all texts, 8, then 9", where the length list has `room` elements. Past 6
 -- the texts are the whole byte list.
 abbrev pub lengths_checks : List ℕ → List ℕ → ℕ → List Check
 lengths_checks texts counts room =
     sum_check texts counts
-    ∷ at_most (length counts) most_marks too_many_marks
+    ∷ at_most (length counts) most_marks TooManyMarks
     ∷ letter_check texts
-    ∷ length_check (every length_in_range_lem (lengths_of counts texts))
-    ∷ at_most (length counts) room list_too_short
+    ∷ length_check (list_all length_in_range_lem (lengths_of counts texts))
+    ∷ at_most (length counts) room ListTooShort
     ∷ []
 
 unfoldable pub lengths_verdict : List ℕ → List ℕ → ℕ → Verdict

@@ -1,6 +1,6 @@
 // One text: its letters, its width, and its longest beginning of at most 240 dots.
 ghost use Rattle.std.specs.Prelude.{◌≡◌, true};
-ghost use Rattle.geometry.specs.Lists.{every};
+ghost use Rattle.std.specs.List.{list_all};
 ghost use Rattle.font.specs.Letters.{in_font_lem};
 ghost use Rattle.font.specs.Text.{text_width, longest_beginning_lem};
 ghost use Rattle.font.specs.inner.Counts.{count_fits_lem, Readable};
@@ -19,7 +19,7 @@ pub const MOST_WIDTH: u32 = MOST_LENGTH as u32;
 
 // A text is looked at whole, with no jump at a byte that fails, so that the compiler tests several bytes at once.
 pub fn all_in_font(text: &[u8]) -> bool
-    ensures { result ≡ every in_font_lem text.now }
+    ensures { result ≡ list_all in_font_lem text.now }
 {
     let mut good = true;
     let mut i = 0;
@@ -53,7 +53,7 @@ pub fn width(widths: &Widths, text: &[u8]) -> u32
 
 // Behind the bytes that surely have room, goes on until the next would pass 240 dots, so no further than to the 81st.
 pub fn longest_beginning(widths: &Widths, text: &[u8]) -> usize
-    requires { (is_font widths.now ≡ true) × (every in_font_lem text.now ≡ true) }
+    requires { (is_font widths.now ≡ true) × (list_all in_font_lem text.now ≡ true) }
     ensures { result ≡ longest_beginning_lem text.now }
 {
     if text.len() <= SURE_BYTES {

@@ -1,6 +1,7 @@
 // Many texts in one byte list: their checks in order, and their lengths.
 ghost use Rattle.std.specs.Prelude.{◌≡◌, true, ◌≤◌, ◌<◌, eqb, length};
-ghost use Rattle.geometry.specs.Lists.{every, sum_list};
+ghost use Rattle.geometry.specs.Lists.{sum_list};
+ghost use Rattle.std.specs.List.{list_all};
 ghost use Rattle.geometry.specs.Mark.{length_in_range_lem};
 ghost use Rattle.geometry.specs.Pass.{written};
 ghost use Rattle.geometry.specs.Refusal.{number_of};
@@ -33,7 +34,7 @@ fn counts_add_up(counts: &[u16], bytes: usize) -> bool
 }
 
 fn counts_fit(counts: &[u16]) -> bool
-    ensures { result ≡ every count_fits_lem counts.now }
+    ensures { result ≡ list_all count_fits_lem counts.now }
 {
     let mut good = true;
     let mut i = 0;
@@ -64,7 +65,7 @@ fn text_at<'a>(texts: &'a [u8], counts: &[u16], at: usize, i: usize) -> &'a [u8]
 // Whether all texts are at most 240 dots.
 fn all_fit(widths: &Widths, texts: &[u8], counts: &[u16]) -> bool
     requires { (is_font widths.now ≡ true) × ReadableTexts texts.now counts.now }
-    ensures { result ≡ every length_in_range_lem (lengths_of counts.now texts.now) }
+    ensures { result ≡ list_all length_in_range_lem (lengths_of counts.now texts.now) }
 {
     let mut at = 0;
     let mut i = 0;
@@ -103,7 +104,7 @@ pub fn check_texts(widths: &Widths, texts: &[u8], counts: &[u16], room: usize) -
 pub fn fill(widths: &Widths, texts: &[u8], counts: &[u16], lengths: &mut [u8])
     requires { (is_font widths.now ≡ true)
         × ReadableTexts texts.now counts.now
-        × (every length_in_range_lem (lengths_of counts.now texts.now) ≡ true)
+        × (list_all length_in_range_lem (lengths_of counts.now texts.now) ≡ true)
         × (length counts.now ≤ length lengths.old) }
     ensures { lengths.new ≡ written (lengths_of counts.now texts.now) lengths.old }
 {

@@ -16,7 +16,7 @@ use Rattle.geometry.specs.Dot.{empty_reach}
 use Rattle.geometry.specs.Strip.{Strip, marks_of, most_marks}
 use Rattle.geometry.specs.Position.{Position}
 use Rattle.geometry.specs.Placing.{first_placing}
-use Rattle.geometry.specs.Refusal.{Verdict, accepted, refused, number_of, refusal_number, no_placing}
+use Rattle.geometry.specs.Refusal.{Verdict, accepted, refused, number_of, refusal_number, NoPlacing}
 use Rattle.geometry.specs.Pass.{cleared, work_after}
 use Rattle.geometry.specs.inner.At.{mark_at}
 use Rattle.geometry.specs.inner.Each.{Each}
@@ -121,7 +121,7 @@ module _ (s : Strip) (g : ℕ) (entry : FullLent) where
           }
 
       -- the two cases: no placing, and the first placing
-      pub no-placing-call : (exit : FullLent) (n : ℕ) → count ≡ 0 → n ≡ refusal_number no_placing → exit.positions ≡ entry.positions
+      pub no-placing-call : (exit : FullLent) (n : ℕ) → count ≡ 0 → n ≡ refusal_number NoPlacing → exit.positions ≡ entry.positions
           → exit.work ≡ cleared work_named (pos 0) table → FullContract s g entry exit n
       no-placing-call exit n none_kept number positions work =
           settled none exit n (first-by-count ∙ rw (eq-eqb count 0 none_kept) refl) number positions work

@@ -11,7 +11,7 @@ use lib.ListN.{length, get_or}
 use mir.Syntax.{w16}
 use mir.Val.{to_z, of_z}
 use Rattle.geometry.specs.Dot.{dot}
-use Rattle.geometry.specs.Lists.{every}
+use Rattle.std.specs.List.{list_all}
 use Rattle.geometry.specs.Mark.{Mark, place_in_range_lem, length_in_range_lem, most_length}
 use Rattle.geometry.specs.Strip.{Strip, marks_of_lists, marks_of}
 use Rattle.geometry.specs.Position.{Direction, leftward, rightward}
@@ -51,7 +51,7 @@ module _ (z : ℤ) (l g weight : ℕ) (formed : Formed z l g) where
   formed-ends = record { left-edge = left-held; right-end = right-held; reach = reach-held }
 
 -- the labels of a strip's marks
-lists-held : (g : ℕ) → Narrow g → (zs : List ℤ) (ls ws : List ℕ) → every place_in_range_lem zs ≡ true → every length_in_range_lem ls ≡ true
+lists-held : (g : ℕ) → Narrow g → (zs : List ℤ) (ls ws : List ℕ) → list_all place_in_range_lem zs ≡ true → list_all length_in_range_lem ls ≡ true
     → Each (EndsHeld g) (marks_of_lists zs ls ws)
 unfolding marks_of_lists
 lists-held g h [] ls ws p q = tt
@@ -62,7 +62,7 @@ lists-held g h (z ∷ zs) (l ∷ ls) (w ∷ ws) p q =
     record { place-good = first_good place_in_range_lem z zs p; length-good = first_good length_in_range_lem l ls q; gap-narrow = h } in
     (formed-ends z l g w formed, lists-held g h zs ls ws (rest-good place_in_range_lem z zs p) (rest-good length_in_range_lem l ls q))
 
-pub marks-held : (g : ℕ) (s : Strip) → Narrow g → every place_in_range_lem s.places ≡ true → every length_in_range_lem s.lengths ≡ true
+pub marks-held : (g : ℕ) (s : Strip) → Narrow g → list_all place_in_range_lem s.places ≡ true → list_all length_in_range_lem s.lengths ≡ true
     → Each (EndsHeld g) (marks_of s)
 marks-held g s h p q = lists-held g h s.places s.lengths s.weights p q
 

@@ -13,7 +13,7 @@ use lib.IntN.{ℤ, pos}
 use lib.ListN.{length, get_or, take, drop, set, drop_of_length-le, get_or-map}
 use lib.Seq.{sets, sets-eq, drop-set-lt, drop_at, take_at, length-take-le, get_or-take, get_or-drop}
 use Rattle.geometry.specs.Dot.{dot}
-use Rattle.geometry.specs.Lists.{every}
+use Rattle.std.specs.List.{list_all}
 use Rattle.geometry.specs.Mark.{Mark, place_in_range_lem}
 use Rattle.geometry.specs.Strip.{Strip, marks_of}
 use Rattle.geometry.specs.Position.{leftward, rightward}
@@ -67,7 +67,7 @@ module _ (g : ℕ) (s : Strip) (same : length s.places ≡ length s.lengths) (we
       rw (behind k few) (before g (mark_at s k) (mark_at s (k + 1)) (drop (k + 1 + 1) (marks_of s)) next row)
 
   -- a mark that keeps nothing: the first mark keeps nothing
-  pub none-kept-first : every place_in_range_lem s.places ≡ true → (i : ℕ) → i < length s.places → count_of (row_in g s i) ≡ 0
+  pub none-kept-first : list_all place_in_range_lem s.places ≡ true → (i : ℕ) → i < length s.places → count_of (row_in g s i) ≡ 0
       → count_of (row_in g s 0) ≡ 0
   none-kept-first good zero inside e = e
   none-kept-first good (suc k) inside e =

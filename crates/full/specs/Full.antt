@@ -5,7 +5,7 @@ use Rattle.std.proofs.Math.Option.{Option, none, some}
 use Rattle.geometry.specs.Strip.{Strip, marks_of, most_marks}
 use Rattle.geometry.specs.Position.{Position, code}
 use Rattle.geometry.specs.Placing.{first_placing}
-use Rattle.geometry.specs.Refusal.{Verdict, accepted, refused, number_of, no_placing}
+use Rattle.geometry.specs.Refusal.{Verdict, accepted, refused, number_of, NoPlacing}
 use Rattle.geometry.specs.Pass.{pass_verdict, written, work_after}
 
 -- "Work areas, lent by the caller: full pass 20,000 numbers of 16 bits"
@@ -27,7 +27,7 @@ full_checks s g entry = pass_verdict most_marks s g (length entry.positions) wor
 -- "full and slide, at the end: 11 no placing exists", behind the checks
 abbrev pub full_verdict : Verdict → Option (List Position) → Verdict
 full_verdict (refused r) placing = refused r
-full_verdict accepted none = refused no_placing
+full_verdict accepted none = refused NoPlacing
 full_verdict accepted (some ps) = accepted
 
 -- the position list afterwards: the placing's numbers in its used part, or unchanged at every refusal

@@ -12,7 +12,7 @@ use lib.Signed.{lt_z}
 use lib.ListN.{length, get_or, drop}
 use borrow.Author.Tests.{le-leb, leb-true, eq-eqb, eqb-true, ltb-true}
 use Rattle.geometry.specs.Dot.{dot}
-use Rattle.geometry.specs.Lists.{every}
+use Rattle.std.specs.List.{list_all}
 use Rattle.geometry.specs.Mark.{place_in_range_lem, length_in_range_lem, weight_in_range_lem, rising, most_length, most_weight}
 use Rattle.geometry.specs.Strip.{Strip, strip, marks_of_lists, marks_of, most_marks}
 use Rattle.geometry.specs.Refusal.{Check, accepted, first_failure}
@@ -29,10 +29,10 @@ pub record Accepted (limit : ℕ) (s : Strip) : Type 0 where
   pub same-lengths : length s.places ≡ length s.lengths
   pub same-weights : length s.places ≡ length s.weights
   pub few : length s.places ≤ limit
-  pub places-good : every place_in_range_lem s.places ≡ true
+  pub places-good : list_all place_in_range_lem s.places ≡ true
   pub places-rise : rising s.places ≡ true
-  pub lengths-good : every length_in_range_lem s.lengths ≡ true
-  pub weights-good : every weight_in_range_lem s.weights ≡ true
+  pub lengths-good : list_all length_in_range_lem s.lengths ≡ true
+  pub weights-good : list_all weight_in_range_lem s.weights ≡ true
 
 -- what checks 6 to 10, with 12, say besides of the gap and of the lengths of lent memory
 pub record PassAccepted (limit : ℕ) (s : Strip) (g shortest named lent : ℕ) : Type 0 where
@@ -88,10 +88,10 @@ from-checks own limit s p =
       same-lengths = eqb-true _ _ (and-fst lengths-equal weights-equal same);
       same-weights = eqb-true _ _ (and-snd lengths-equal weights-equal same);
       few = leb-true _ _ (one-passed _ p.few);
-      places-good = and-fst (every place_in_range_lem s.places) (rising s.places) places;
-      places-rise = and-snd (every place_in_range_lem s.places) (rising s.places) places;
-      lengths-good = and-fst (every length_in_range_lem s.lengths) (every weight_in_range_lem s.weights) labels;
-      weights-good = and-snd (every length_in_range_lem s.lengths) (every weight_in_range_lem s.weights) labels;
+      places-good = and-fst (list_all place_in_range_lem s.places) (rising s.places) places;
+      places-rise = and-snd (list_all place_in_range_lem s.places) (rising s.places) places;
+      lengths-good = and-fst (list_all length_in_range_lem s.lengths) (list_all weight_in_range_lem s.weights) labels;
+      weights-good = and-snd (list_all length_in_range_lem s.lengths) (list_all weight_in_range_lem s.weights) labels;
     }
 
 -- from the verdict on entry
@@ -122,8 +122,8 @@ pass-accepted limit s g shortest named lent e =
 pub accepted-entry : (limit : ℕ) (s : Strip) → limit ≤ most_marks → Accepted limit s → entry limit s ≡ accepted
 unfolding entry
 accepted-entry limit s most a =
-    let places = both (every place_in_range_lem s.places) (rising s.places) a.places-good a.places-rise in
-    let labels = both (every length_in_range_lem s.lengths) (every weight_in_range_lem s.weights) a.lengths-good a.weights-good in
+    let places = both (list_all place_in_range_lem s.places) (rising s.places) a.places-good a.places-rise in
+    let labels = both (list_all length_in_range_lem s.lengths) (list_all weight_in_range_lem s.weights) a.lengths-good a.weights-good in
     pass-each [] s limit
     (record {
       lists = pass-one _ (both _ _ (eq-eqb _ _ a.same-lengths) (eq-eqb _ _ a.same-weights));
@@ -153,14 +153,13 @@ accept-shorter limit fewer s e h =
     all-passed (to_values [] s) (count_checks fewer s) (both-passed (to_values [] s) (count_checks limit s) e).0 (pass-one _ (le-leb _ _ h))
 
 -- every element of a good list is good
-pub every-at : {A : Type 0} (p : A → Bool) (xs : List A) (d : A) (i : ℕ) → every p xs ≡ true → i < length xs → p (get_or xs i d) ≡ true
-unfolding every
+pub every-at : {A : Type 0} (p : A → Bool) (xs : List A) (d : A) (i : ℕ) → list_all p xs ≡ true → i < length xs → p (get_or xs i d) ≡ true
 every-at p [] d i e h = absurd (omega arith)
-every-at p (x ∷ xs) d zero e h = and-fst (p x) (every p xs) e
-every-at p (x ∷ xs) d (suc i) e h = every-at p xs d i (and-snd (p x) (every p xs) e) (omega arith)
+every-at p (x ∷ xs) d zero e h = and-fst (p x) (list_all p xs) e
+every-at p (x ∷ xs) d (suc i) e h = every-at p xs d i (and-snd (p x) (list_all p xs) e) (omega arith)
 
 -- so every weight is one of 1 to 1,000
-pub weight-at : (ws : List ℕ) (i : ℕ) → every weight_in_range_lem ws ≡ true → i < length ws
+pub weight-at : (ws : List ℕ) (i : ℕ) → list_all weight_in_range_lem ws ≡ true → i < length ws
     → (1 ≤ get_or ws i 0) × (get_or ws i 0 ≤ most_weight)
 weight-at ws i e h = one-to most_weight (get_or ws i 0) (every-at weight_in_range_lem ws 0 i e h)
 
@@ -198,16 +197,14 @@ one-mark z l p q = omega (arith, range-dots z p, one-to most_length l q)
 
 -- the first of a good list, and the rest of it
 module _ {A : Type 0} (p : A → Bool) (x : A) (xs : List A) where
-  pub first_good : every p (x ∷ xs) ≡ true → p x ≡ true
-  unfolding every
-  first_good e = and-fst (p x) (every p xs) e
+  pub first_good : list_all p (x ∷ xs) ≡ true → p x ≡ true
+  first_good e = and-fst (p x) (list_all p xs) e
 
-  pub rest-good : every p (x ∷ xs) ≡ true → every p xs ≡ true
-  unfolding every
-  rest-good e = and-snd (p x) (every p xs) e
+  pub rest-good : list_all p (x ∷ xs) ≡ true → list_all p xs ≡ true
+  rest-good e = and-snd (p x) (list_all p xs) e
 
 -- places in range that rise, with lengths in range, make marks that rise
-rise : (zs : List ℤ) (ls ws : List ℕ) → every place_in_range_lem zs ≡ true → rising zs ≡ true → every length_in_range_lem ls ≡ true
+rise : (zs : List ℤ) (ls ws : List ℕ) → list_all place_in_range_lem zs ≡ true → rising zs ≡ true → list_all length_in_range_lem ls ≡ true
     → Rising (marks_of_lists zs ls ws)
 unfolding marks_of_lists rising
 rise [] ls ws p r q = tt

@@ -4,14 +4,14 @@
 use mathlib.Core.Path.{◌≡◌, refl, ◌∙◌, ap}
 use mathlib.Core.Bool.{Bool, true, false, ◌&&◌}
 use mathlib.Core.List.{List, [], ◌∷◌}
-use Prim.Native.Nat.{ℕ, zero, suc, ◌+◌, ◌<◌}
+use Prim.Native.Nat.{ℕ, zero, suc, ◌+◌, ◌-◌, ◌<◌, ◌≤◌}
 use native.Mathlib.Numerals.{add-one}
 use native.Mathlib.Omega.{arith}
 use lib.IntN.{ℤ}
 use lib.Signed.{lt_z}
 use lib.ListN.{length, get_or, take, drop}
 use lib.Seq.{drop-cons, drop-length}
-use Rattle.geometry.specs.Lists.{every}
+use Rattle.std.specs.List.{list_all}
 use Rattle.geometry.specs.Mark.{rising}
 use Rattle.geometry.proofs.Split.{both, and-fst, and-snd}
 
@@ -23,19 +23,7 @@ and-ends : (good : Bool) → (good && true) ≡ good
 and-ends true = refl
 and-ends false = refl
 
--- the elements before i pass together exactly if `good` says so
-module _ {A : Type 0} (p : A → Bool) (xs : List A) (d : A) (i : ℕ) (good : Bool) (so_far : every p xs ≡ (good && every p (drop i xs))) where
-  -- one element more
-  pub every-next : i < length xs → every p xs ≡ ((good && p (get_or xs i d)) && every p (drop (i + 1) xs))
-  unfolding every
-  every-next h = so_far ∙ rw (add-one, drop-cons xs i d h) (and-moves good (p (get_or xs i d)) (every p (drop (suc i) xs)))
-
-  -- none is left
-  pub every-ends : i ≡ length xs → every p xs ≡ good
-  unfolding every
-  every-ends e = so_far ∙ rw (e, drop-length xs) (and-ends good)
-
--- the same for the order of places: what is left begins with two neighbours
+-- what is left begins with two neighbours
 module _ (zs : List ℤ) (d : ℤ) (i : ℕ) (good : Bool) (so_far : rising zs ≡ (good && rising (drop i zs))) where
   next-two : i + 1 < length zs → drop i zs ≡ get_or zs i d ∷ get_or zs (i + 1) d ∷ drop (suc (i + 1)) zs
   next-two h = drop-cons zs i d (omega arith) ∙ ap (λ (l : List ℤ). get_or zs i d ∷ l) (rw (← add-one i) (drop-cons zs (i + 1) d h))
@@ -51,21 +39,31 @@ module _ (zs : List ℤ) (d : ℤ) (i : ℕ) (good : Bool) (so_far : rising zs �
   unfolding rising
   rising-ends h = so_far ∙ rw (drop-cons zs i d (omega arith), ← add-one i, h, drop-length zs) (and-ends good)
 
-pub rising_none : (zs : List ℤ) → length zs ≡ 0 → rising zs ≡ true
+rising_none : (zs : List ℤ) → length zs ≡ 0 → rising zs ≡ true
 unfolding rising
 rising_none [] e = refl
 rising_none (z ∷ zs) e = absurd (omega arith)
 
+none-left : {good : Bool} (n : ℕ) → true ≡ (good && rising (drop {A = ℤ} n [])) → true ≡ good
+unfolding rising
+none-left zero e = e ∙ and-ends _
+none-left (suc n) e = e ∙ and-ends _
+
+-- where no place is left behind place i - 1, or there is none at all
+pub rising-all : (zs : List ℤ) (d : ℤ) (i : ℕ) (good : Bool) → rising zs ≡ (good && rising (drop (i - 1) zs)) → 1 ≤ i → (1 ≤ length zs → i ≤ length zs)
+    → length zs ≤ i → rising zs ≡ good
+unfolding rising
+rising-all [] d i good so_far some within h = none-left (i - 1) so_far
+rising-all (z ∷ zs) d i good so_far some within h = rising-ends (z ∷ zs) d (i - 1) good so_far (omega (arith, within))
+
 -- what every element of a list passes, every element of a part passes
 module _ {A : Type 0} (p : A → Bool) where
-  pub every_take : (n : ℕ) (xs : List A) → every p xs ≡ true → every p (take n xs) ≡ true
-  unfolding every
+  pub every_take : (n : ℕ) (xs : List A) → list_all p xs ≡ true → list_all p (take n xs) ≡ true
   every_take zero xs e = refl
   every_take (suc n) [] e = refl
-  every_take (suc n) (x ∷ xs) e = both (p x) (every p (take n xs)) (and-fst (p x) (every p xs) e) (every_take n xs (and-snd (p x) (every p xs) e))
+  every_take (suc n) (x ∷ xs) e = both (p x) (list_all p (take n xs)) (and-fst (p x) (list_all p xs) e) (every_take n xs (and-snd (p x) (list_all p xs) e))
 
-  pub every_drop : (n : ℕ) (xs : List A) → every p xs ≡ true → every p (drop n xs) ≡ true
-  unfolding every
+  pub every_drop : (n : ℕ) (xs : List A) → list_all p xs ≡ true → list_all p (drop n xs) ≡ true
   every_drop zero xs e = e
   every_drop (suc n) [] e = refl
-  every_drop (suc n) (x ∷ xs) e = every_drop n xs (and-snd (p x) (every p xs) e)
+  every_drop (suc n) (x ∷ xs) e = every_drop n xs (and-snd (p x) (list_all p xs) e)

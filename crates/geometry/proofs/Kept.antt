@@ -5,7 +5,8 @@ use mathlib.Core.Path.{◌≡◌, refl, sym, ◌∙◌, ap}
 use mathlib.Core.Bool.{Bool, true, false, cond, ◌&&◌}
 use mathlib.Core.Logic.{inl, inr, ⊎_elim}
 use mathlib.Core.List.{List, [], ◌∷◌}
-use Rattle.geometry.specs.Lists.{every, any_of, keep}
+use Rattle.geometry.specs.Lists.{any_of, keep}
+use Rattle.std.specs.List.{list_all}
 use Rattle.geometry.proofs.Split.{by_bool, and-fst, and-snd, clash, or_left, or_right}
 use Rattle.geometry.proofs.Words.{Member}
 
@@ -20,10 +21,9 @@ module _ {A : Type 0} (p : A → Bool) where
       (λ e m. let r = kept-passes xs x m in (inr r.0, r.1))
 
   -- if every element passes, so does one that is listed
-  pub every-passes : (xs : List A) (x : A) → every p xs ≡ true → Member x xs → p x ≡ true
-  unfolding every
-  every-passes (y ∷ xs) x e (inl q) = ap p q ∙ and-fst (p y) (every p xs) e
-  every-passes (y ∷ xs) x e (inr m) = every-passes xs x (and-snd (p y) (every p xs) e) m
+  pub every-passes : (xs : List A) (x : A) → list_all p xs ≡ true → Member x xs → p x ≡ true
+  every-passes (y ∷ xs) x e (inl q) = ap p q ∙ and-fst (p y) (list_all p xs) e
+  every-passes (y ∷ xs) x e (inr m) = every-passes xs x (and-snd (p y) (list_all p xs) e) m
   every-passes [] x e x4 = elim x4 [ ]
 
   -- a listed element that fails
@@ -33,11 +33,10 @@ module _ {A : Type 0} (p : A → Bool) where
     pub fails : p element ≡ false
 
   -- there is one if not every element passes
-  pub one-fails : (xs : List A) → every p xs ≡ false → Failing xs
-  unfolding every
+  pub one-fails : (xs : List A) → list_all p xs ≡ false → Failing xs
   one-fails [] = λ e. clash refl e
   one-fails (y ∷ xs) =
-      by_bool (p y) (λ t. (t && every p xs) ≡ false → Failing (y ∷ xs))
+      by_bool (p y) (λ t. (t && list_all p xs) ≡ false → Failing (y ∷ xs))
       (λ _ e. let r = one-fails xs e in record { element = r.element; listed = inr r.listed; fails = r.fails })
       (λ q e. record { element = y; listed = inl refl; fails = q })
 

@@ -10,7 +10,7 @@ use lib.Dec.{leb}
 use lib.ListN.{length}
 use borrow.Author.Tests.{le-leb, lt-leb, leb-true, leb-false}
 use Rattle.geometry.specs.Strip.{Strip, most_marks}
-use Rattle.geometry.specs.Refusal.{Refusal, Check, Verdict, accepted, refused, too_many_marks, bad_mark, after_check, first_failure}
+use Rattle.geometry.specs.Refusal.{Refusal, Check, Verdict, accepted, refused, TooManyMarks, BadMark, after_check, first_failure}
 use Rattle.geometry.specs.Entry.{same_lengths_lem, good_marks_lem, lists_checks, count_checks, value_checks, entry_checks, entry}
 use Rattle.geometry.specs.Pass.{gap_checks, answer_checks, work_checks, pass_verdict}
 use Rattle.geometry.proofs.Verdicts.{then, failure-append, same_then, refusal-stands, both-passed, all-passed, one-passed, pass-one}
@@ -38,10 +38,10 @@ pub record Decides (own : List Check) (limit : ℕ) (s : Strip) : Type 0 where
 
 -- the verdict by the earlier checks and the three tests: at most 4,000 marks, all good, and as few as the call takes
 abbrev too_many : Bool → Verdict
-too_many few = after_check few too_many_marks accepted
+too_many few = after_check few TooManyMarks accepted
 
 abbrev a_bad_one : Bool → Verdict
-a_bad_one good = after_check good bad_mark accepted
+a_bad_one good = after_check good BadMark accepted
 
 abbrev judged : Verdict → Bool → Bool → Bool → Verdict
 judged earlier taken good few = then (then (then earlier (too_many taken)) (a_bad_one good)) (too_many few)
@@ -83,7 +83,7 @@ module _ (own : List Check) (limit : ℕ) (s : Strip) where
 
   -- where the order decides: 7 before, 8 now
   pub decided : Decides own limit s
-      → (first_failure (entry_checks_before own limit s) ≡ refused too_many_marks) × (first_failure (entry_checks own limit s) ≡ refused bad_mark)
+      → (first_failure (entry_checks_before own limit s) ≡ refused TooManyMarks) × (first_failure (entry_checks own limit s) ≡ refused BadMark)
   decided d =
       let passed = all-passed (lists_checks s) own (pass-one _ d.past-6) d.past-own in (
         before-judged ∙ rw (passed, lt-leb count limit d.over-limit) refl,
@@ -122,11 +122,11 @@ module _ (limit : ℕ) (s : Strip) (g shortest named lent : ℕ) where
   stands checks r e = refusal-stands (checks ++ answers) (work_checks named lent) r (refusal-stands checks answers r e)
 
   pub pass-decided : Decides (gap_checks g) limit s
-      → (pass_verdict_before limit s g shortest named lent ≡ refused too_many_marks) × (pass_verdict limit s g shortest named lent ≡ refused bad_mark)
+      → (pass_verdict_before limit s g shortest named lent ≡ refused TooManyMarks) × (pass_verdict limit s g shortest named lent ≡ refused BadMark)
   unfolding pass_verdict
   pass-decided d =
       let verdicts = decided (gap_checks g) limit s d in
-      (stands (entry_checks_before (gap_checks g) limit s) too_many_marks verdicts.0, stands (entry_checks (gap_checks g) limit s) bad_mark verdicts.1)
+      (stands (entry_checks_before (gap_checks g) limit s) TooManyMarks verdicts.0, stands (entry_checks (gap_checks g) limit s) BadMark verdicts.1)
 
   pub pass-undecided : limit ≤ most_marks → (Decides (gap_checks g) limit s → ⊥)
       → pass_verdict limit s g shortest named lent ≡ pass_verdict_before limit s g shortest named lent

@@ -12,7 +12,7 @@ use lib.IntN.{ℤ, pos, negsuc, sub_ℕ, ◌+ℤ◌, ◌-ℤ◌, ◌*ℤ◌}
 use lib.ListN.{length}
 use lib.Signed.{mag, le_z}
 use Rattle.geometry.specs.Dot.{dot}
-use Rattle.geometry.specs.Lists.{every}
+use Rattle.std.specs.List.{list_all}
 use Rattle.geometry.specs.Mark.{place_in_range_lem, length_in_range_lem, most_length}
 use Rattle.geometry.specs.Strip.{Strip, marks_of_lists, marks_of}
 use Rattle.geometry.specs.Position.{Side}
@@ -122,8 +122,8 @@ module _ (g n : ℕ) (some : 1 ≤ n) where
     )
 
   -- a placing by signed edges is one by their parts: all its edges lie above −32,768
-  placing-high : (zs : List ℤ) (ls : List ℕ) (ss : List Side) (es : List ℤ) → every place_in_range_lem zs ≡ true
-      → every length_in_range_lem ls ≡ true
+  placing-high : (zs : List ℤ) (ls : List ℕ) (ss : List Side) (es : List ℤ) → list_all place_in_range_lem zs ≡ true
+      → list_all length_in_range_lem ls ≡ true
       → SignedSliding g n zs ls ss es → AllHigh es
   placing-high [] ls [] [] p q a = tt
   placing-high (z ∷ zs) (l ∷ ls) (s ∷ ss) (e ∷ es) p q a = (
@@ -138,7 +138,7 @@ module _ (g n : ℕ) (some : 1 ≤ n) where
 
   -- and each mark's edge is allowed and apart from those behind it
   placing-parts : (zs : List ℤ) (ls ws : List ℕ) (ss : List Side) (es : List ℤ) → length zs ≡ length ls → length zs ≡ length ws
-      → every place_in_range_lem zs ≡ true → every length_in_range_lem ls ≡ true
+      → list_all place_in_range_lem zs ≡ true → list_all length_in_range_lem ls ≡ true
       → SignedSliding g n zs ls ss es → SlidingPlacing g n (marks_of_lists zs ls ws) ss (map parts es)
   unfolding marks_of_lists
   placing-parts [] ls ws [] [] p q r t a = tt
@@ -160,7 +160,7 @@ module _ (g n : ℕ) (some : 1 ≤ n) where
 
   -- and the other way round
   parts-all-high : (zs : List ℤ) (ls ws : List ℕ) (ss : List Side) (es : List ℤ) → length zs ≡ length ls → length zs ≡ length ws
-      → every place_in_range_lem zs ≡ true → every length_in_range_lem ls ≡ true → SlidingPlacing g n (marks_of_lists zs ls ws) ss (map parts es)
+      → list_all place_in_range_lem zs ≡ true → list_all length_in_range_lem ls ≡ true → SlidingPlacing g n (marks_of_lists zs ls ws) ss (map parts es)
       → AllHigh es
   unfolding marks_of_lists
   parts-all-high [] ls ws [] [] p q r t a = tt
@@ -177,7 +177,7 @@ module _ (g n : ℕ) (some : 1 ≤ n) where
 
   -- and each mark's edge is allowed and apart from those behind it
   parts-placing : (zs : List ℤ) (ls ws : List ℕ) (ss : List Side) (es : List ℤ) → length zs ≡ length ls → length zs ≡ length ws
-      → every place_in_range_lem zs ≡ true → every length_in_range_lem ls ≡ true
+      → list_all place_in_range_lem zs ≡ true → list_all length_in_range_lem ls ≡ true
       → SlidingPlacing g n (marks_of_lists zs ls ws) ss (map parts es) → SignedSliding g n zs ls ss es
   unfolding marks_of_lists
   parts-placing [] ls ws [] [] p q r t a = tt

@@ -10,7 +10,8 @@ use Prim.Native.Nat.{ℕ}
 use lib.Dec.{ltb, eqb}
 use lib.ListN.{length}
 use borrow.Author.Tests.{eqb-true, ltb-true, not-true, eq-eqb}
-use Rattle.geometry.specs.Lists.{every, any_of, keep, first_of, greatest_of, prefixed, words_of}
+use Rattle.geometry.specs.Lists.{any_of, keep, first_of, greatest_of, prefixed, words_of}
+use Rattle.std.specs.List.{list_all}
 use Rattle.geometry.specs.Mark.{Mark}
 use Rattle.geometry.specs.Strip.{marks_of_lists, marks_of}
 use Rattle.geometry.specs.Position.{Position, every_position, code}
@@ -82,7 +83,7 @@ test ms full_none = nothing (first_placing 0 ms)
 test ms slide_fits = slides_whole 0 ms
 test ms slide_none = rising_test ms && not (slides_whole 0 ms)
 test ms (best_is s) = eqb (best_sum 0 ms) s
-test ms (best_out s out) = eqb (best_sum 0 ms) s && every (leaves ms s out) (words_of every_position (length ms))
+test ms (best_out s out) = eqb (best_sum 0 ms) s && list_all (leaves ms s out) (words_of every_position (length ms))
 test ms (unbeaten_is k) = eqb (unbeaten_count 0 ms) k
 
 -- each part of the test proves its part of the claim
@@ -95,7 +96,7 @@ is-nothing none e = refl
 is-nothing (some ps) e = clash e refl
 
 -- every free choice with the sum is enumerated, so it leaves out those marks
-only-those : (ms : List Mark) (s : ℕ) (out : List ℕ) → every (leaves ms s out) (words_of every_position (length ms)) ≡ true
+only-those : (ms : List Mark) (s : ℕ) (out : List ℕ) → list_all (leaves ms s out) (words_of every_position (length ms)) ≡ true
     → (ps : List Position) → free 0 ms ps ≡ true → sum_of ms ps ≡ s → left_out_from 1 ps ≡ out
 only-those ms s out e ps f w =
     let t = every-passes (leaves ms s out) (words_of every_position (length ms)) ps e (free-listed 0 ms ps f) in
@@ -113,7 +114,7 @@ test-holds ms slide_none e =
     (not-true _ (and-snd (rising_test ms) (not (slides_whole 0 ms)) e))
 test-holds ms (best_is s) e = eqb-true (best_sum 0 ms) s e
 test-holds ms (best_out s out) e =
-    let every-leaves = every (leaves ms s out) (words_of every_position (length ms)) in (
+    let every-leaves = list_all (leaves ms s out) (words_of every_position (length ms)) in (
       eqb-true (best_sum 0 ms) s (and-fst (eqb (best_sum 0 ms) s) every-leaves e),
       only-those ms s out (and-snd (eqb (best_sum 0 ms) s) every-leaves e),
     )
@@ -123,8 +124,8 @@ test-holds ms (unbeaten_is k) e = eqb-true (unbeaten_count 0 ms) k e
 passes : Claim → Bool
 passes c = test (marks_of c.strip) c.says
 
-all_pass : every passes starred ≡ true
-unfolding every passes test same_numbers rising_test first_placing first_of words_of prefixed free apart marks_of_lists slides_whole any_of none_beyond
+all_pass : list_all passes starred ≡ true
+unfolding passes test same_numbers rising_test first_placing first_of words_of prefixed free apart marks_of_lists slides_whole any_of none_beyond
     edges_from best_sum greatest_of sum_of left_out_from unbeaten_count distinct keep unbeaten part_layouts reach
 all_pass = refl
 

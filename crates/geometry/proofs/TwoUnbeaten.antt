@@ -7,7 +7,7 @@ use Prim.Native.Nat.{ℕ, zero, suc, ◌≤◌}
 use native.Mathlib.Omega.{arith}
 use lib.IntN.{ℤ}
 use lib.ListN.{length, take}
-use Rattle.geometry.specs.Lists.{every}
+use Rattle.std.specs.List.{list_all}
 use Rattle.geometry.specs.Mark.{Mark, place_in_range_lem}
 use Rattle.geometry.specs.Strip.{Strip, marks_of_lists, marks_of, most_marks}
 use Rattle.geometry.specs.Dot.{empty_reach}
@@ -24,7 +24,7 @@ use Rattle.geometry.proofs.Layouts.{two-unbeaten}
 use Rattle.geometry.proofs.Beginnings.{rising-take, beyond-take, begins-unbeaten}
 
 -- a place in range has a dot of at least 2,768
-lists-beyond : (zs : List ℤ) (ls ws : List ℕ) → every place_in_range_lem zs ≡ true → Beyond empty_reach (marks_of_lists zs ls ws)
+lists-beyond : (zs : List ℤ) (ls ws : List ℕ) → list_all place_in_range_lem zs ≡ true → Beyond empty_reach (marks_of_lists zs ls ws)
 unfolding marks_of_lists
 lists-beyond [] ls ws e = tt
 lists-beyond (z ∷ zs) [] ws e = tt
@@ -33,7 +33,7 @@ lists-beyond (z ∷ zs) (l ∷ ls) (w ∷ ws) e =
     (omega (arith, range-dots z (first_good place_in_range_lem z zs e)), lists-beyond zs ls ws (rest-good place_in_range_lem z zs e))
 
 -- accepted places lie far beyond the reach of a side without labels
-marks-beyond : (s : Strip) → every place_in_range_lem s.places ≡ true → Beyond empty_reach (marks_of s)
+marks-beyond : (s : Strip) → list_all place_in_range_lem s.places ≡ true → Beyond empty_reach (marks_of s)
 marks-beyond s e = lists-beyond s.places s.lengths s.weights e
 
 -- the first k marks of a rising strip, at least one, have at most two unbeaten pairs

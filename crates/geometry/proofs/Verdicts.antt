@@ -8,30 +8,32 @@ use Prim.Native.Nat.{ℕ, ◌≤◌}
 use native.Mathlib.Omega.{arith}
 use lib.Dec.{leb, eqb}
 use borrow.Author.Tests.{eqb-false, not-true}
-use Rattle.geometry.specs.Lists.{every}
-use Rattle.geometry.specs.Strip.{Strip}
-use Rattle.geometry.specs.Pass.{pass_verdict}
-use Rattle.geometry.specs.Refusal.{Refusal, bytes_end, stray_bit, absent_value, out_of_range, bytes_left_over, lists_unequal, too_many_marks}
-use Rattle.geometry.specs.Refusal.{bad_mark, list_too_short, work_too_short, no_placing, gap_too_wide, stray_byte, refusal_number}
-use Rattle.geometry.specs.Refusal.{Verdict, accepted, refused, number_of, Check, at_most, after_check, first_failure}
-use Rattle.geometry.specs.inner.Checks.{number_of_checks, CheckNumber}
+use Rattle.std.specs.List.{list_all}
+use Rattle.std.specs.Prelude.{Result, Ok, Err, IsErrAnd}
+use Rattle.geometry.specs.Strip.{Strip, most_marks}
+use Rattle.geometry.specs.Entry.{lists_checks, count_checks, value_checks, entry_checks}
+use lib.ListN.{length}
+use Rattle.geometry.specs.Pass.{gap_checks, answer_checks, work_checks, pass_verdict}
+use Rattle.geometry.specs.Refusal.{Refusal, BytesEnd, StrayBit, AbsentValue, OutOfRange, BytesLeftOver, ListsUnequal, TooManyMarks}
+use Rattle.geometry.specs.Refusal.{BadMark, ListTooShort, WorkTooShort, NoPlacing, GapTooWide, StrayByte, refusal_number}
+use Rattle.geometry.specs.Refusal.{Verdict, accepted, refused, number_of, verdict_of, Check, at_most, after_check, first_failure}
 use Rattle.geometry.proofs.Split.{by_bool, is-leb, and-fst, and-snd}
 
 -- no refusal has the number 0
 pub refusal-positive : (r : Refusal) → refusal_number r ≡ 0 → ⊥
-refusal-positive bytes_end e = omega arith
-refusal-positive stray_bit e = omega arith
-refusal-positive absent_value e = omega arith
-refusal-positive out_of_range e = omega arith
-refusal-positive bytes_left_over e = omega arith
-refusal-positive lists_unequal e = omega arith
-refusal-positive too_many_marks e = omega arith
-refusal-positive bad_mark e = omega arith
-refusal-positive list_too_short e = omega arith
-refusal-positive work_too_short e = omega arith
-refusal-positive no_placing e = omega arith
-refusal-positive gap_too_wide e = omega arith
-refusal-positive stray_byte e = omega arith
+refusal-positive BytesEnd e = omega arith
+refusal-positive StrayBit e = omega arith
+refusal-positive AbsentValue e = omega arith
+refusal-positive OutOfRange e = omega arith
+refusal-positive BytesLeftOver e = omega arith
+refusal-positive ListsUnequal e = omega arith
+refusal-positive TooManyMarks e = omega arith
+refusal-positive BadMark e = omega arith
+refusal-positive ListTooShort e = omega arith
+refusal-positive WorkTooShort e = omega arith
+refusal-positive NoPlacing e = omega arith
+refusal-positive GapTooWide e = omega arith
+refusal-positive StrayByte e = omega arith
 
 -- so number 0 is acceptance
 pub zero-accepted : (v : Verdict) → number_of v ≡ 0 → v ≡ accepted
@@ -59,26 +61,13 @@ failure-append [] ds = refl
 failure-append (c ∷ cs) ds =
     ap (after_check c.passes c.otherwise) (failure-append cs ds) ∙ after_then c.passes c.otherwise (first_failure cs) (first_failure ds)
 
-then-stands : (v w : Verdict) → (number_of v ≡ 0 → ⊥) → number_of (then v w) ≡ number_of v
-then-stands accepted w some = absurd (some refl)
-then-stands (refused r) w some = refl
-
 then-accepted : (v w : Verdict) → then v w ≡ accepted → (v ≡ accepted) × (w ≡ accepted)
 then-accepted accepted w e = (refl, e)
 then-accepted (refused r) w e = absurd (refused-other r e)
 
 module _ (cs ds : List Check) where
-  -- the number of the first list stands if it is a refusal
-  pub number-stands : {number : ℕ} → number ≡ number_of_checks cs → (number ≡ 0 → ⊥) → number ≡ number_of_checks (cs ++ ds)
-  number-stands is some = rw (failure-append cs ds, then-stands _ (first_failure ds) (λ none. some (is ∙ none))) is
-
-  -- and else the number is that of the second
   verdict-passes : first_failure cs ≡ accepted → first_failure (cs ++ ds) ≡ first_failure ds
   verdict-passes passed = rw (failure-append cs ds, passed) refl
-
-  pub number-passes : {first number : ℕ} → first ≡ number_of_checks cs → first ≡ 0 → number ≡ number_of_checks ds
-      → number ≡ number_of_checks (cs ++ ds)
-  number-passes is none second = second ∙ sym (ap number_of (verdict-passes (zero-accepted _ (sym is ∙ none))))
 
   -- both are passed where all checks are, and all where both are
   pub both-passed : first_failure (cs ++ ds) ≡ accepted → (first_failure cs ≡ accepted) × (first_failure ds ≡ accepted)
@@ -87,17 +76,39 @@ module _ (cs ds : List Check) where
   pub all-passed : first_failure cs ≡ accepted → first_failure ds ≡ accepted → first_failure (cs ++ ds) ≡ accepted
   all-passed first second = verdict-passes first ∙ second
 
--- the number of a list and two more: its own if that is a refusal, else that of the two
-module _ (cs ds es : List Check) where
-  in-turn : number_of_checks (cs ++ (ds ++ es)) ≡ number_of_checks (cs ++ ds ++ es)
-  in-turn = sym (ap number_of_checks (append_assoc cs ds es))
+-- what `?` hands on is the refusal that came
+pub handed-on : {A : Type 0} (answer : Result A Refusal) (r : Refusal) → IsErrAnd answer (λ e. e ≡ r) → verdict_of answer ≡ refused r
+handed-on (Ok values) r e = absurd e
+handed-on (Err q) r e = ap refused e
 
-  pub early-stands : {number : ℕ} → number ≡ number_of_checks cs → (number ≡ 0 → ⊥) → number ≡ number_of_checks (cs ++ ds ++ es)
-  early-stands is some = number-stands cs (ds ++ es) is some ∙ in-turn
+-- the verdict of one check, from what the call that made it gave
+pub one-made : (r : Refusal) {t u : Bool} {v : Verdict} → v ≡ after_check t r accepted → t ≡ u
+    → first_failure (record { passes = u; otherwise = r } ∷ []) ≡ v
+unfolding first_failure
+one-made r is e = rw (sym e) (sym is)
 
-  pub early-passes : {first number : ℕ} → first ≡ number_of_checks cs → first ≡ 0 → number ≡ number_of_checks (ds ++ es)
-      → number ≡ number_of_checks (cs ++ ds ++ es)
-  early-passes is none second = number-passes cs (ds ++ es) is none second ∙ in-turn
+-- the checks on entry, one after the other
+pub entry-in-turn : (own : List Check) (limit : ℕ) (s : Strip) {six between seven eight last : Verdict} → first_failure (lists_checks s) ≡ six
+    → first_failure own ≡ between → first_failure (count_checks most_marks s) ≡ seven → first_failure (value_checks s) ≡ eight
+    → first_failure (count_checks limit s) ≡ last
+    → first_failure (entry_checks own limit s) ≡ then (then (then (then six between) seven) eight) last
+entry-in-turn own limit s lists is_own count values few =
+    let first = lists_checks s ++ own in
+    let second = first ++ count_checks most_marks s in
+    let third = second ++ value_checks s in
+    rw (failure-append third (count_checks limit s), failure-append second (value_checks s), failure-append first (count_checks most_marks s)
+      , failure-append (lists_checks s) own, lists, is_own, count, values, few)
+    refl
+
+-- and those of a pass
+pub pass-in-turn : (limit : ℕ) (s : Strip) (g shortest named lent : ℕ) {entered nine ten : Verdict}
+    → first_failure (entry_checks (gap_checks g) limit s) ≡ entered → first_failure (answer_checks (length s.places) shortest) ≡ nine
+    → first_failure (work_checks named lent) ≡ ten → pass_verdict limit s g shortest named lent ≡ then (then entered nine) ten
+unfolding pass_verdict
+pass-in-turn limit s g shortest named lent entry answers work =
+    let first = entry_checks (gap_checks g) limit s in
+    let second = first ++ answer_checks (length s.places) shortest in
+    rw (failure-append second (work_checks named lent), failure-append first (answer_checks (length s.places) shortest), entry, answers, work) refl
 
 -- so lists of checks with equal verdicts are followed by equal ones, and a refusal by none
 pub same_then : (cs ds es : List Check) → first_failure cs ≡ first_failure ds → first_failure (cs ++ es) ≡ first_failure (ds ++ es)
@@ -141,30 +152,24 @@ pub part-first : (t : Bool) (c : Check) (cs : List Check) → (c.passes ≡ true
 unfolding first_failure
 part-first t c cs needs = after-part t c.passes c.otherwise (first_failure cs) needs
 
--- the number of the check that a count is at most so many, from a test that holds exactly where it is
-pub count-number : (n m : ℕ) (r : Refusal) {passes : Bool} {otherwise number : ℕ} → CheckNumber passes otherwise number
-    → (passes ≡ true → n ≤ m) × (n ≤ m → passes ≡ true) × (otherwise ≡ refusal_number r)
-    → number ≡ number_of_checks (at_most n m r ∷ [])
-count-number n m r check (so, only_so, is) = check (leb n m) r (is-leb n m (so, only_so)) is
-
 -- whether a check's refusal is another than 11
 abbrev not11 : Check → Bool
-not11 c = not (eqb (refusal_number c.otherwise) (refusal_number no_placing))
+not11 c = not (eqb (refusal_number c.otherwise) (refusal_number NoPlacing))
 
 -- checks whose refusals are all others do not give it
-after-not-11 : (c : Check) (v : Verdict) → not11 c ≡ true → (number_of v ≡ refusal_number no_placing → ⊥)
-    → number_of (after_check c.passes c.otherwise v) ≡ refusal_number no_placing → ⊥
+after-not-11 : (c : Check) (v : Verdict) → not11 c ≡ true → (number_of v ≡ refusal_number NoPlacing → ⊥)
+    → number_of (after_check c.passes c.otherwise v) ≡ refusal_number NoPlacing → ⊥
 after-not-11 c v other others =
-    by_bool c.passes (λ t. number_of (after_check t c.otherwise v) ≡ refusal_number no_placing → ⊥) (λ _. others)
-    (λ _. eqb-false _ _ (not-true (eqb (refusal_number c.otherwise) (refusal_number no_placing)) other))
+    by_bool c.passes (λ t. number_of (after_check t c.otherwise v) ≡ refusal_number NoPlacing → ⊥) (λ _. others)
+    (λ _. eqb-false _ _ (not-true (eqb (refusal_number c.otherwise) (refusal_number NoPlacing)) other))
 
-none-is-11 : (cs : List Check) → every not11 cs ≡ true → number_of_checks cs ≡ refusal_number no_placing → ⊥
-unfolding every first_failure
+none-is-11 : (cs : List Check) → list_all not11 cs ≡ true → number_of (first_failure cs) ≡ refusal_number NoPlacing → ⊥
+unfolding first_failure
 none-is-11 [] e = omega arith
-none-is-11 (c ∷ cs) e = after-not-11 c (first_failure cs) (and-fst (not11 c) (every not11 cs) e) (none-is-11 cs (and-snd (not11 c) (every not11 cs) e))
+none-is-11 (c ∷ cs) e = after-not-11 c (first_failure cs) (and-fst (not11 c) (list_all not11 cs) e) (none-is-11 cs (and-snd (not11 c) (list_all not11 cs) e))
 
 -- so no check of a pass before its work gives 11
 pub pass-not-11 : (limit : ℕ) (s : Strip) (g shortest named lent : ℕ)
-    → number_of (pass_verdict limit s g shortest named lent) ≡ refusal_number no_placing → ⊥
-unfolding pass_verdict every
+    → number_of (pass_verdict limit s g shortest named lent) ≡ refusal_number NoPlacing → ⊥
+unfolding pass_verdict
 pass-not-11 limit s g shortest named lent = none-is-11 _ refl

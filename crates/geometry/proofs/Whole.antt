@@ -10,7 +10,8 @@ use Prim.Native.Nat.{ℕ, ◌+◌, ◌≤◌}
 use native.Mathlib.Omega.{arith}
 use lib.IntN.{ℤ}
 use lib.ListN.{length}
-use Rattle.geometry.specs.Lists.{every, sum_list, words_of}
+use Rattle.geometry.specs.Lists.{sum_list, words_of}
+use Rattle.std.specs.List.{list_all}
 use Rattle.geometry.specs.Mark.{Mark, weight_in_range_lem, most_weight}
 use Rattle.geometry.specs.Strip.{Strip, marks_of_lists, marks_of}
 use Rattle.geometry.specs.Position.{Side, above, below, Direction, leftward, rightward, Position, unlabelled, at, ranked, labelled}
@@ -104,7 +105,7 @@ found-placing g ms c e =
     record { is_free = r.1; labels-all = spelled-labelled c (word-spelled ranked (length ms) c r.0) }
 
 -- the marks of three lists weigh what the weight list says
-heavy-lists : (zs : List ℤ) (ls ws : List ℕ) → every weight_in_range_lem ws ≡ true → (m : Mark) → Member m (marks_of_lists zs ls ws)
+heavy-lists : (zs : List ℤ) (ls ws : List ℕ) → list_all weight_in_range_lem ws ≡ true → (m : Mark) → Member m (marks_of_lists zs ls ws)
     → 1 ≤ m.weight
 unfolding marks_of_lists
 heavy-lists (z ∷ zs) (l ∷ ls) (w ∷ ws) e m (inl k) = rw k (one-to most_weight w (first_good weight_in_range_lem w ws e)).0
@@ -114,7 +115,7 @@ heavy-lists (z ∷ zs) [] ws e m x5 = elim x5 [ ]
 heavy-lists (z ∷ zs) (l ∷ ls) [] e m x8 = elim x8 [ ]
 
 -- every weight of the list is in its range, so every mark weighs at least 1
-pub heavy-marks : (s : Strip) → every weight_in_range_lem s.weights ≡ true → (m : Mark) → Member m (marks_of s) → 1 ≤ m.weight
+pub heavy-marks : (s : Strip) → list_all weight_in_range_lem s.weights ≡ true → (m : Mark) → Member m (marks_of s) → 1 ≤ m.weight
 heavy-marks s e m h = heavy-lists s.places s.lengths s.weights e m h
 
 -- what `first_placing` says, without the placing
@@ -142,7 +143,7 @@ module _ (g : ℕ) (ms : List Mark) where
 
 -- the same of a strip: "the weight of all marks is the sum of the weight list"
 pub best-whole-iff-placing : (g : ℕ) (s : Strip) → length s.places ≡ length s.lengths → length s.places ≡ length s.weights
-    → every weight_in_range_lem s.weights ≡ true → (best_sum g (marks_of s) ≡ sum_list s.weights) ↔ (first_placing g (marks_of s) ≡ none → ⊥)
+    → list_all weight_in_range_lem s.weights ≡ true → (best_sum g (marks_of s) ≡ sum_list s.weights) ↔ (first_placing g (marks_of s) ≡ none → ⊥)
 best-whole-iff-placing g s e f h =
     let w : sum_list (weights_of (marks_of s)) ≡ sum_list s.weights = ap sum_list (weights-of-marks s e f) in
     (λ b. all-earned-places g (marks_of s) (heavy-marks s h) (b ∙ sym w), λ n. placing-earns-all g (marks_of s) n ∙ w)

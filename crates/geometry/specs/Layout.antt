@@ -1,6 +1,7 @@
 -- "Unbeaten part layouts", by enumeration. (Part layout = k-realization; unbeaten = Pareto-minimal.)
 use Rattle.std.specs.Prelude.{ℕ, max, min, ◌≡◌, List, [], ◌∷◌, map, Bool, true, not, cond, ◌&&◌, ◌||◌, leb, ltb, eqb, length, take}
-use Rattle.geometry.specs.Lists.{every, any_of, keep}
+use Rattle.geometry.specs.Lists.{any_of, keep}
+use Rattle.std.specs.List.{list_all}
 use Rattle.geometry.specs.Dot.{empty_reach}
 use Rattle.geometry.specs.Mark.{Mark}
 use Rattle.geometry.specs.Position.{Side, above, below, Position, unlabelled, at, same_side}
@@ -37,7 +38,7 @@ beats p q = leb p.larger q.larger && (leb p.smaller q.smaller && (ltb p.larger q
 
 -- "A part layout is unbeaten if no part layout of the same marks beats it"
 unfoldable pub unbeaten : ℕ → List Mark → List Position → Bool
-unbeaten g ms ps = every (λ qs. not (beats (pair_of ms qs) (pair_of ms ps))) (part_layouts g ms)
+unbeaten g ms ps = list_all (λ qs. not (beats (pair_of ms qs) (pair_of ms ps))) (part_layouts g ms)
 
 abbrev pub same_pair : Pair → Pair → Bool
 same_pair p q = eqb p.larger q.larger && eqb p.smaller q.smaller

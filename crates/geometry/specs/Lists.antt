@@ -2,11 +2,6 @@
 use Rattle.std.specs.Prelude.{ℕ, zero, suc, ◌+◌, max, List, [], ◌∷◌, ◌++◌, map, Bool, true, false, cond, ◌&&◌, ◌||◌}
 use Rattle.std.proofs.Math.Option.{Option, none, some}
 
--- every element passes a test
-unfoldable pub every {ℓ} : {A : Type ℓ} → (A → Bool) → List A → Bool
-every p [] = true
-every p (x ∷ xs) = p x && every p xs
-
 -- some element passes it
 unfoldable pub any_of {ℓ} : {A : Type ℓ} → (A → Bool) → List A → Bool
 any_of p [] = false

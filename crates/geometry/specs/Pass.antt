@@ -2,7 +2,7 @@
 -- than named"; and lent memory afterwards.
 use Rattle.std.specs.Prelude.{ℕ, List, [], ◌∷◌, ◌++◌, length, drop, replicate}
 use Rattle.geometry.specs.Strip.{Strip}
-use Rattle.geometry.specs.Refusal.{Check, Verdict, accepted, refused, at_most, first_failure, gap_too_wide, list_too_short, work_too_short}
+use Rattle.geometry.specs.Refusal.{Check, Verdict, accepted, refused, at_most, first_failure, GapTooWide, ListTooShort, WorkTooShort}
 use Rattle.geometry.specs.Entry.{entry_checks}
 
 -- "The passes take a gap, 0 to 8 dots." (document 02, P2)
@@ -11,15 +11,15 @@ most_gap = 8
 
 -- "12, gap over 8, tested by the passes right after 6"
 abbrev pub gap_checks : ℕ → List Check
-gap_checks g = at_most g most_gap gap_too_wide ∷ []
+gap_checks g = at_most g most_gap GapTooWide ∷ []
 
 -- 9: the shortest answer list has the length shortest
 abbrev pub answer_checks : ℕ → ℕ → List Check
-answer_checks marks shortest = at_most marks shortest list_too_short ∷ []
+answer_checks marks shortest = at_most marks shortest ListTooShort ∷ []
 
 -- 10: the work area has the length lent, and the part of it that document 01 names the length named
 abbrev pub work_checks : ℕ → ℕ → List Check
-work_checks named lent = at_most named lent work_too_short ∷ []
+work_checks named lent = at_most named lent WorkTooShort ∷ []
 
 -- the checks 6 to 10 and 12 of a pass that takes at most limit marks, at a gap of g dots
 unfoldable pub pass_verdict : ℕ → Strip → ℕ → ℕ → ℕ → ℕ → Verdict

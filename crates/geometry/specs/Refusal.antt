@@ -1,36 +1,24 @@
 -- "Where the labeller says no": the refusal numbers, and "The first check that is not passed decides." Document 02, P2: "12, gap over 8
 -- [..]; it and every later number join document 01's table." P4: "13, a byte outside 32 to 126".
-use Rattle.std.specs.Prelude.{ℕ, List, [], ◌∷◌, Bool, true, false, leb}
-
-pub data Refusal : Type 0 where
-  bytes_end : Refusal
-  stray_bit : Refusal
-  absent_value : Refusal
-  out_of_range : Refusal
-  bytes_left_over : Refusal
-  lists_unequal : Refusal
-  too_many_marks : Refusal
-  bad_mark : Refusal
-  list_too_short : Refusal
-  work_too_short : Refusal
-  no_placing : Refusal
-  gap_too_wide : Refusal
-  stray_byte : Refusal
+use Rattle.std.specs.Prelude.{ℕ, ◌≡◌, List, [], ◌∷◌, Bool, true, false, leb, Result, Ok, Err}
+pub use Rattle.geometry.specs.declared.refusal.Refusal.{Refusal}
+pub use Rattle.geometry.specs.declared.refusal.Refusal.TheVariants.{BytesEnd, StrayBit, AbsentValue, OutOfRange, BytesLeftOver, ListsUnequal}
+pub use Rattle.geometry.specs.declared.refusal.Refusal.TheVariants.{TooManyMarks, BadMark, ListTooShort, WorkTooShort, NoPlacing, GapTooWide, StrayByte}
 
 abbrev pub refusal_number : Refusal → ℕ
-refusal_number bytes_end = 1
-refusal_number stray_bit = 2
-refusal_number absent_value = 3
-refusal_number out_of_range = 4
-refusal_number bytes_left_over = 5
-refusal_number lists_unequal = 6
-refusal_number too_many_marks = 7
-refusal_number bad_mark = 8
-refusal_number list_too_short = 9
-refusal_number work_too_short = 10
-refusal_number no_placing = 11
-refusal_number gap_too_wide = 12
-refusal_number stray_byte = 13
+refusal_number BytesEnd = 1
+refusal_number StrayBit = 2
+refusal_number AbsentValue = 3
+refusal_number OutOfRange = 4
+refusal_number BytesLeftOver = 5
+refusal_number ListsUnequal = 6
+refusal_number TooManyMarks = 7
+refusal_number BadMark = 8
+refusal_number ListTooShort = 9
+refusal_number WorkTooShort = 10
+refusal_number NoPlacing = 11
+refusal_number GapTooWide = 12
+refusal_number StrayByte = 13
 
 pub data Verdict : Type 0 where
   accepted : Verdict
@@ -40,6 +28,15 @@ pub data Verdict : Type 0 where
 abbrev pub number_of : Verdict → ℕ
 number_of accepted = 0
 number_of (refused r) = refusal_number r
+
+-- "When an answer is an enum, a definition gives this paper's number and values for each of its cases.": what an answer says of the call,
+-- whatever it hands over
+abbrev pub verdict_of : {A : Type 0} → Result A Refusal → Verdict
+verdict_of (Ok values) = accepted
+verdict_of (Err r) = refused r
+
+abbrev pub answer_number : {A : Type 0} → Result A Refusal → ℕ
+answer_number answer = number_of (verdict_of answer)
 
 -- a check and the refusal where it is not passed
 pub record Check : Type 0 where

@@ -2,6 +2,7 @@
 use Rattle.std.specs.Prelude.{ℕ, List, [], ◌∷◌, ℤ, take}
 use Rattle.geometry.specs.Dot.{dot}
 use Rattle.geometry.specs.Mark.{Mark}
+use Rattle.geometry.specs.declared.strip.Strip as handed
 
 pub record Strip : Type 0 where
   pub places : List ℤ
@@ -10,6 +11,10 @@ pub record Strip : Type 0 where
 
 abbrev pub strip : List ℤ → List ℕ → List ℕ → Strip
 strip places lengths weights = record { places = places; lengths = lengths; weights = weights }
+
+-- the mark lists of a strip as a call is handed them
+abbrev pub lists_of : handed.Strip → Strip
+lists_of s = strip s.places.now s.lengths.now s.weights.now
 
 -- the first so many marks of three lists, as where a reader has filled so many of each
 abbrev pub first_marks : ℕ → Strip → Strip

@@ -1,20 +1,18 @@
 // The checks on entry: 6 mark lists of unequal length, then 12 a gap over 8, which only the passes test, then 7 over 4,000 marks, then 8 a
 // value out of range or places not rising, then 7 more marks than the call takes.
-ghost use Rattle.std.specs.Prelude.{◌≡◌};
+ghost use Rattle.std.specs.Prelude.{◌≡◌, Bool};
+ghost use Rattle.std.specs.List.{list_all};
 ghost use Rattle.std.specs.Int.Signed.{lt_z};
-ghost use Rattle.geometry.specs.Lists.{every};
 ghost use Rattle.geometry.specs.Mark.{place_in_range_lem, length_in_range_lem, weight_in_range_lem, rising};
-ghost use Rattle.geometry.specs.Strip.{strip, most_marks};
+ghost use Rattle.geometry.specs.Strip.{lists_of, most_marks};
 ghost use Rattle.geometry.specs.Entry.{same_lengths_lem, good_places_lem, good_labels_lem, good_marks_lem, entry};
 ghost use Rattle.geometry.specs.Pass.{pass_verdict};
-ghost use Rattle.geometry.specs.Refusal.{number_of};
-ghost use Rattle.geometry.specs.inner.OnEntry.{NumberOnEntry};
+ghost use Rattle.geometry.specs.Refusal.{verdict_of};
+ghost use Rattle.geometry.specs.inner.OnEntry.{VerdictOnEntry};
 
-use crate::checks::{check, first_refusal};
 use crate::limits::{LEAST_PLACE, MOST_GAP, MOST_LENGTH, MOST_MARKS, MOST_PLACE, MOST_WEIGHT};
-use crate::refusal::{
-    BAD_MARK, GAP_TOO_WIDE, LIST_TOO_SHORT, LISTS_UNEQUAL, TOO_MANY_MARKS, WORK_TOO_SHORT,
-};
+use crate::refusal::{Refusal, check};
+use crate::strip::Strip;
 
 pub fn place_in_range(place: i16) -> bool
     ensures { result ≡ place_in_range_lem place }
@@ -34,39 +32,15 @@ pub fn weight_in_range(weight: u16) -> bool
     1 <= weight && weight <= MOST_WEIGHT
 }
 
-// A list is looked at whole, with no jump at an element that fails, so that the compiler tests several elements at once.
-fn places_in_range(places: &[i16]) -> bool
-    ensures { result ≡ every place_in_range_lem places.now }
+// Whether every element passes a test. A list is looked at whole, with no jump at an element that fails, so that the compiler tests several
+// elements at once: `all` of an iterator stops there.
+pub fn every_passes<T: Copy, F: Fn(T) -> bool>(list: &[T], test: F) -> bool
+    requires { F.IsAlwaysCallable test }
+    ensures { (passes : T → Bool) → ((x : T) (r : Bool) → F.post test x r → r ≡ passes x) → result ≡ list_all passes list.now }
 {
     let mut good = true;
-    let mut i = 0;
-    while i < places.len() {
-        good = good & place_in_range(places[i]);
-        i += 1;
-    }
-    good
-}
-
-fn lengths_in_range(lengths: &[u8]) -> bool
-    ensures { result ≡ every length_in_range_lem lengths.now }
-{
-    let mut good = true;
-    let mut i = 0;
-    while i < lengths.len() {
-        good = good & length_in_range(lengths[i]);
-        i += 1;
-    }
-    good
-}
-
-fn weights_in_range(weights: &[u16]) -> bool
-    ensures { result ≡ every weight_in_range_lem weights.now }
-{
-    let mut good = true;
-    let mut i = 0;
-    while i < weights.len() {
-        good = good & weight_in_range(weights[i]);
-        i += 1;
+    for x in list {
+        good &= test(*x);
     }
     good
 }
@@ -82,88 +56,71 @@ fn rises(x: i16, y: i16) -> bool
 fn places_rise(places: &[i16]) -> bool
     ensures { result ≡ rising places.now }
 {
-    if places.len() == 0 {
-        return true;
-    }
     let mut good = true;
-    let mut i = 0;
-    while i < places.len() - 1 {
-        good = good & rises(places[i], places[i + 1]);
-        i += 1;
+    for i in 1..places.len() {
+        good &= rises(places[i - 1], places[i]);
     }
     good
 }
 
-fn same_lengths(places: &[i16], lengths: &[u8], weights: &[u16]) -> bool
-    ensures { result ≡ same_lengths_lem (strip places.now lengths.now weights.now) }
+fn same_lengths(strip: Strip) -> bool
+    ensures { result ≡ same_lengths_lem (lists_of strip.entry) }
 {
-    places.len() == lengths.len() && places.len() == weights.len()
+    strip.places.len() == strip.lengths.len() && strip.places.len() == strip.weights.len()
 }
 
 // Whether the places are in their range and rise.
 fn good_places(places: &[i16]) -> bool
     ensures { result ≡ good_places_lem places.now }
 {
-    places_in_range(places) && places_rise(places)
+    every_passes(places, place_in_range) && places_rise(places)
 }
 
 // Whether lengths and weights are in their ranges.
 fn good_labels(lengths: &[u8], weights: &[u16]) -> bool
     ensures { result ≡ good_labels_lem lengths.now weights.now }
 {
-    lengths_in_range(lengths) && weights_in_range(weights)
+    every_passes(lengths, length_in_range) && every_passes(weights, weight_in_range)
 }
 
-fn good_marks(places: &[i16], lengths: &[u8], weights: &[u16]) -> bool
-    ensures { result ≡ good_marks_lem (strip places.now lengths.now weights.now) }
+fn good_marks(strip: Strip) -> bool
+    ensures { result ≡ good_marks_lem (lists_of strip.entry) }
 {
-    good_places(places) && good_labels(lengths, weights)
+    good_places(strip.places) && good_labels(strip.lengths, strip.weights)
 }
 
-// The number of the first check on entry that is not passed, 0 if all are, for a call that takes at most `limit` marks. `own` is what
-// the checks that the call makes right after 6 have given; a call that makes none hands over 0. The values of a strip that no call takes
-// are not looked at.
-fn check_marks(places: &[i16], lengths: &[u8], weights: &[u16], own: u8, limit: usize) -> u8
-    ensures { NumberOnEntry own limit (strip places.now lengths.now weights.now) result }
+// The first check on entry that is not passed, for a call that takes at most `limit` marks. `own` is what the checks that the call makes
+// right after 6 have given; a call that makes none hands over `Ok`. The values of a strip that no call takes are not looked at.
+fn check_marks(strip: Strip, own: Result<(), Refusal>, limit: usize) -> Result<(), Refusal>
+    ensures { VerdictOnEntry (verdict_of own) limit (lists_of strip.entry) (verdict_of result) }
 {
-    let lists = check(same_lengths(places, lengths, weights), LISTS_UNEQUAL);
-    let with_own = first_refusal(lists, own);
-    let refused = first_refusal(with_own, check(places.len() <= MOST_MARKS, TOO_MANY_MARKS));
-    if refused != 0 {
-        return refused;
-    }
-    let values = check(good_marks(places, lengths, weights), BAD_MARK);
-    first_refusal(values, check(places.len() <= limit, TOO_MANY_MARKS))
+    check(same_lengths(strip), Refusal::ListsUnequal)?;
+    own?;
+    check(strip.places.len() <= MOST_MARKS, Refusal::TooManyMarks)?;
+    check(good_marks(strip), Refusal::BadMark)?;
+    check(strip.places.len() <= limit, Refusal::TooManyMarks)
 }
 
 // The checks on entry of the writer, which has none of its own.
-pub fn check_strip(places: &[i16], lengths: &[u8], weights: &[u16]) -> u8
-    ensures { result ≡ number_of (entry most_marks (strip places.now lengths.now weights.now)) }
+pub fn check_strip(strip: Strip) -> Result<(), Refusal>
+    ensures { verdict_of result ≡ entry most_marks (lists_of strip.entry) }
 {
-    check_marks(places, lengths, weights, 0, MOST_MARKS)
+    check_marks(strip, Ok(()), MOST_MARKS)
 }
 
 // Those of a pass, whose own is that of the gap, and behind them the checks on lent memory: 9 where the shortest answer list, of
 // `shortest` elements, is shorter than the count of marks, then 10 where the work area, of `lent` elements, is shorter than `named`.
 pub fn check_pass(
-    places: &[i16],
-    lengths: &[u8],
-    weights: &[u16],
+    strip: Strip,
     gap: u8,
     limit: usize,
     shortest: usize,
     named: usize,
     lent: usize,
-) -> u8
-    ensures { result ≡ number_of (pass_verdict limit
-        (strip places.now lengths.now weights.now)
-        gap shortest named lent) }
+) -> Result<(), Refusal>
+    ensures { verdict_of result ≡ pass_verdict limit (lists_of strip.entry) gap shortest named lent }
 {
-    let own = check(gap <= MOST_GAP, GAP_TOO_WIDE);
-    let entry = check_marks(places, lengths, weights, own, limit);
-    if entry != 0 {
-        return entry;
-    }
-    let answers = check(places.len() <= shortest, LIST_TOO_SHORT);
-    first_refusal(answers, check(named <= lent, WORK_TOO_SHORT))
+    check_marks(strip, check(gap <= MOST_GAP, Refusal::GapTooWide), limit)?;
+    check(strip.places.len() <= shortest, Refusal::ListTooShort)?;
+    check(named <= lent, Refusal::WorkTooShort)
 }

@@ -11,5 +11,5 @@ pub fn at_most(x: i16, y: i16) -> bool
 pub fn larger(x: i16, y: i16) -> i16
     ensures { dot result ≡ max (dot x) (dot y) }
 {
-    if x <= y { y } else { x }
+    x.max(y)
 }

@@ -1,26 +1,45 @@
-// The refusal numbers: `refusal_number` of the specifications, which every contract cites, says what each stands for.
-pub const BYTES_END: u8 = 1;
+// Why a call says no. `refusal_number` of the specifications says which number of document 01 stands for each.
+ghost use Rattle.std.specs.Prelude.{◌≡◌};
+ghost use Rattle.geometry.specs.Refusal.{refusal_number, answer_number, verdict_of, accepted, after_check};
 
-pub const STRAY_BIT: u8 = 2;
+#[derive(Clone, Copy, Debug, PartialEq, Eq)]
+pub enum Refusal {
+    BytesEnd = 1,
+    StrayBit = 2,
+    AbsentValue = 3,
+    OutOfRange = 4,
+    BytesLeftOver = 5,
+    ListsUnequal = 6,
+    TooManyMarks = 7,
+    BadMark = 8,
+    ListTooShort = 9,
+    WorkTooShort = 10,
+    NoPlacing = 11,
+    GapTooWide = 12,
+    StrayByte = 13,
+}
 
-pub const ABSENT_VALUE: u8 = 3;
+impl From<Refusal> for u8 {
+    ghost from_gives = { λ refusal number. number ≡ refusal_number refusal };
 
-pub const OUT_OF_RANGE: u8 = 4;
+    fn from(refusal: Refusal) -> u8 {
+        refusal as u8
+    }
+}
 
-pub const BYTES_LEFT_OVER: u8 = 5;
+// The number that a C host gets: 0 from an accepted call, else that of the refusal.
+pub fn number<T>(answer: &Result<T, Refusal>) -> u8
+    ensures { result ≡ answer_number answer.now }
+{
+    match answer {
+        Ok(_) => 0,
+        Err(refusal) => u8::from(*refusal),
+    }
+}
 
-pub const LISTS_UNEQUAL: u8 = 6;
-
-pub const TOO_MANY_MARKS: u8 = 7;
-
-pub const BAD_MARK: u8 = 8;
-
-pub const LIST_TOO_SHORT: u8 = 9;
-
-pub const WORK_TOO_SHORT: u8 = 10;
-
-pub const NO_PLACING: u8 = 11;
-
-pub const GAP_TOO_WIDE: u8 = 12;
-
-pub const STRAY_BYTE: u8 = 13;
+// One check: refused where it does not pass.
+pub fn check(passes: bool, otherwise: Refusal) -> Result<(), Refusal>
+    ensures { verdict_of result ≡ after_check passes otherwise accepted }
+{
+    if passes { Ok(()) } else { Err(otherwise) }
+}

@@ -11,7 +11,7 @@ use lib.Dec.{leb}
 use lib.IntN.{ℤ}
 use lib.ListN.{length}
 use Rattle.geometry.specs.Strip.{Strip}
-use Rattle.geometry.specs.Refusal.{bytes_left_over}
+use Rattle.geometry.specs.Refusal.{BytesLeftOver}
 use Rattle.job.specs.Outcome.{Outcome, given, refusal}
 use Rattle.job.specs.Decode.{Front, SignedMark, decode_record, no_marks, cons_mark, with_mark, decode_records}
 use Rattle.job.proofs.Outcomes.{never, given-same, checked-given, then-given}
@@ -44,7 +44,7 @@ pub no_record : (first : Bool) (z : ℤ) (bs : List ℕ) (s : Strip) → decode_
 unfolding decode_records
 no_record first z [] s e = (refl, sym (given-same e))
 no_record first z (b ∷ bs) s e =
-    let p = checked-given (leb (length (b ∷ bs)) 0) bytes_left_over (given no_marks) s e in
+    let p = checked-given (leb (length (b ∷ bs)) 0) BytesLeftOver (given no_marks) s e in
     let h : suc (length bs) ≤ 0 = leb-true (suc (length bs)) 0 p.passes in
     absurd (omega arith)
 

@@ -9,7 +9,7 @@ use borrow.Author.Tests.{le-leb, lt-leb, eq-eqb, ne_eqb}
 use lib.Dec.{leb, eqb}
 use lib.ListN.{length, take, drop}
 use Rattle.geometry.specs.Mark.{most_length, most_weight}
-use Rattle.geometry.specs.Refusal.{bytes_end, absent_value, out_of_range}
+use Rattle.geometry.specs.Refusal.{BytesEnd, AbsentValue, OutOfRange}
 use Rattle.job.specs.Number.{big_endian}
 use Rattle.job.specs.Outcome.{given, refusal}
 use Rattle.job.specs.Format.{byte_width, word_width, most_step, absent_step, absent_length, absent_weight, Field, step_field, length_field, weight_field}
@@ -19,17 +19,17 @@ use Rattle.job.proofs.MapByte.{lowest-bit}
 
 module _ (f : Field) (bs : List ℕ) where
   -- the bytes end inside it: refusal 1
-  pub field-ends : length bs < f.width → standing_field f bs ≡ refusal bytes_end
+  pub field-ends : length bs < f.width → standing_field f bs ≡ refusal BytesEnd
   unfolding standing_field
   field-ends h = rw (lt-leb f.width (length bs) h) refl
 
   module _ (v : ℕ) (e : v ≡ big_endian (take f.width bs)) (h : f.width ≤ length bs) where
     -- the value as it was read: refusal 3, refusal 4, or the field
-    pub field-absent : v ≡ f.absent → standing_field f bs ≡ refusal absent_value
+    pub field-absent : v ≡ f.absent → standing_field f bs ≡ refusal AbsentValue
     unfolding standing_field
     field-absent a = rw (le-leb f.width (length bs) h, ← e, eq-eqb v f.absent a) refl
 
-    pub field_out : (v ≡ f.absent → ⊥) → f.in_range v ≡ false → standing_field f bs ≡ refusal out_of_range
+    pub field_out : (v ≡ f.absent → ⊥) → f.in_range v ≡ false → standing_field f bs ≡ refusal OutOfRange
     unfolding standing_field
     field_out n r = rw (le-leb f.width (length bs) h, ← e, ne_eqb v f.absent n, r) refl
 

@@ -13,7 +13,7 @@ use lib.Signed.{le_z}
 use lib.ListN.{length, take, drop}
 use lib.Seq.{get_or-drop}
 use Rattle.geometry.specs.Mark.{most_place}
-use Rattle.geometry.specs.Refusal.{bytes_end, absent_value, out_of_range}
+use Rattle.geometry.specs.Refusal.{BytesEnd, AbsentValue, OutOfRange}
 use Rattle.job.specs.Number.{big_endian, bytes_of, Bytes}
 use Rattle.job.specs.Outcome.{Outcome, given, checked, and_then}
 use Rattle.job.specs.Format.{byte_width, word_width, Field, step_field, length_field, weight_field, bit_stands}
@@ -56,10 +56,10 @@ field-inverse f false bs x a whole h e =
 field-inverse f true bs x a whole h e =
     let v = big_endian (take f.width bs) in
     let good : Outcome (Front ℕ) = given (front v (drop f.width bs)) in
-    let in-range = checked (f.in_range v) out_of_range good in
-    let p = checked-given (leb f.width (length bs)) bytes_end (checked (not (eqb v f.absent)) absent_value in-range) x e in
-    let q = checked-given (not (eqb v f.absent)) absent_value in-range x p.after in
-    let r = checked-given (f.in_range v) out_of_range good x q.after in
+    let in-range = checked (f.in_range v) OutOfRange good in
+    let p = checked-given (leb f.width (length bs)) BytesEnd (checked (not (eqb v f.absent)) AbsentValue in-range) x e in
+    let q = checked-given (not (eqb v f.absent)) AbsentValue in-range x p.after in
+    let r = checked-given (f.in_range v) OutOfRange good x q.after in
     let n = not-true (eqb v f.absent) q.passes in
     rw (← given-same r.after)
     (record {
@@ -83,8 +83,8 @@ unfolding decode_place
 place-inverse first z map bs x h e =
     let after : Front ℕ → Front ℤ = λ step. front (place_after first z step.value) step.rest in
     let p = then-given (decode_field step_field map bs)
-    (λ step. checked (le_z (place_after first z step.value) most_place) out_of_range (given (after step))) x e in
-    let q = checked-given (le_z (place_after first z p.first.value) most_place) out_of_range (given (after p.first)) x p.after in
+    (λ step. checked (le_z (place_after first z step.value) most_place) OutOfRange (given (after step))) x e in
+    let q = checked-given (le_z (place_after first z p.first.value) most_place) OutOfRange (given (after p.first)) x p.after in
     record {
       step = p.first;
       step_back = field-inverse step_field (bit_stands 0 map) bs p.first refl (front-two bs h) h p.is;

@@ -10,7 +10,7 @@ use lib.Dec.{leb}
 use lib.IntN.{ℤ}
 use lib.ListN.{length}
 use Rattle.geometry.specs.Strip.{Strip}
-use Rattle.geometry.specs.Refusal.{accepted, bytes_left_over}
+use Rattle.geometry.specs.Refusal.{accepted, BytesLeftOver}
 use Rattle.geometry.specs.inner.Place.{place_of_lem}
 use Rattle.geometry.proofs.Split.{by_bool}
 use Rattle.job.specs.Outcome.{Outcome, given, refusal, checked, verdict_of}
@@ -46,7 +46,7 @@ module _ (job : List ℕ) (count at d i : ℕ) (r : RecordRead) (acc : verdict_o
 no-marks : (first : Bool) (z : ℤ) (bs : List ℕ) → marks_in (decode_records 0 first z bs) ≡ no_marks
 unfolding decode_records
 no-marks first z bs =
-    by_bool (leb (length bs) 0) (λ t. marks_in (checked t bytes_left_over (given no_marks)) ≡ no_marks) (λ _. refl) (λ _. refl)
+    by_bool (leb (length bs) 0) (λ t. marks_in (checked t BytesLeftOver (given no_marks)) ≡ no_marks) (λ _. refl) (λ _. refl)
 
 pub none_left : (job : List ℕ) (count at d i : ℕ) → count ≤ i → marks_in (left_at job count at d i) ≡ no_marks
 none_left job count at d i h =

@@ -10,7 +10,7 @@ use lib.Dec.{leb}
 use lib.ListN.{length}
 use Rattle.geometry.specs.Mark.{place_in_range_lem}
 use Rattle.geometry.specs.Strip.{most_marks}
-use Rattle.geometry.specs.Refusal.{bytes_end, out_of_range}
+use Rattle.geometry.specs.Refusal.{BytesEnd, OutOfRange}
 use Rattle.geometry.specs.inner.Place.{place_of_lem, most_dot}
 use Rattle.geometry.proofs.Split.{and-fst, and-snd}
 use Rattle.geometry.proofs.Dots.{range-dots}
@@ -20,14 +20,14 @@ use Rattle.job.specs.Format.{header_length}
 use Rattle.job.specs.Decode.{header_count, header_place, header_of, header_in_range_lem, decode_header}
 
 -- fewer than 4 bytes: refusal 1
-pub header-short : (bs : List ℕ) → length bs < header_length → decode_header bs ≡ refusal bytes_end
+pub header-short : (bs : List ℕ) → length bs < header_length → decode_header bs ≡ refusal BytesEnd
 unfolding decode_header
 header-short bs h = rw (lt-leb header_length (length bs) h) refl
 
 -- from the two values as they were read: refusal 4, or the header
 module _ (bs : List ℕ) (count d : ℕ) (whole : header_length ≤ length bs) (counted : header_count bs ≡ count)
     (placed : header_place bs ≡ place_of_lem d) where
-  pub header-out : header_in_range_lem count (place_of_lem d) ≡ false → decode_header bs ≡ refusal out_of_range
+  pub header-out : header_in_range_lem count (place_of_lem d) ≡ false → decode_header bs ≡ refusal OutOfRange
   unfolding decode_header
   header-out t = rw (le-leb header_length (length bs) whole, counted, placed, t) refl
 

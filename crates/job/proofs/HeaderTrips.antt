@@ -13,7 +13,7 @@ use lib.ListN.{length, drop, length-append}
 use lib.Seq.{drop_at}
 use Rattle.geometry.specs.Mark.{place_in_range_lem}
 use Rattle.geometry.specs.Strip.{most_marks}
-use Rattle.geometry.specs.Refusal.{bytes_end, out_of_range}
+use Rattle.geometry.specs.Refusal.{BytesEnd, OutOfRange}
 use Rattle.geometry.proofs.Split.{and-fst, and-snd}
 use Rattle.geometry.proofs.Dots.{range-mag}
 use Rattle.job.specs.Number.{big_endian, signed, word_of, Bytes}
@@ -84,8 +84,8 @@ header-inverse bs h e =
     let n = header_count bs in
     let z = header_place bs in
     let good : Outcome Header = given (header_of n z) in
-    let p = checked-given (leb header_length (length bs)) bytes_end (checked (header_in_range_lem n z) out_of_range good) h e in
-    let q = checked-given (header_in_range_lem n z) out_of_range good h p.after in
+    let p = checked-given (leb header_length (length bs)) BytesEnd (checked (header_in_range_lem n z) OutOfRange good) h e in
+    let q = checked-given (header_in_range_lem n z) OutOfRange good h p.after in
     let r = and-snd (leb n most_marks) (place_in_range_lem z && (not (eqb n 0) || zero_place z)) q.passes in
     rw (← given-same q.after)
     (record {

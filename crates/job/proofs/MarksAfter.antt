@@ -9,7 +9,7 @@ use native.Mathlib.Omega.{arith}
 use lib.IntN.{ℤ}
 use lib.ListN.{length}
 use Rattle.geometry.specs.Dot.{dot}
-use Rattle.geometry.specs.Lists.{every}
+use Rattle.std.specs.List.{list_all}
 use Rattle.geometry.specs.Mark.{place_in_range_lem, length_in_range_lem, weight_in_range_lem, rising}
 use Rattle.geometry.specs.Strip.{Strip, strip}
 use Rattle.geometry.proofs.Split.{both}
@@ -44,7 +44,7 @@ Begins first z [] = Unit {0}
 Begins first z (y ∷ zs) = Follows first z y
 
 -- in a list that rises the second place comes after the first
-next-begins : (z : ℤ) (zs : List ℤ) → every place_in_range_lem (z ∷ zs) ≡ true → rising (z ∷ zs) ≡ true → Begins false z zs
+next-begins : (z : ℤ) (zs : List ℤ) → list_all place_in_range_lem (z ∷ zs) ≡ true → rising (z ∷ zs) ≡ true → Begins false z zs
 next-begins z [] good r = tt
 next-begins z (y ∷ zs) good r = rising-first z y zs good r
 
@@ -102,7 +102,7 @@ module _ (limit : ℕ) where
   -- and pass every test of the checks
   pub after-accepted : (first : Bool) (z : ℤ) (zs : List ℤ) (ls ws : List ℕ) → length zs ≤ limit → MarksAfter first z zs ls ws
       → Accepted limit (strip zs ls ws)
-  unfolding every rising
+  unfolding rising
   after-accepted first z [] [] [] few h =
       record { same-lengths = refl; same-weights = refl; few = few; places-good = refl; places-rise = refl; lengths-good = refl; weights-good = refl }
   after-accepted first z [] [] (w ∷ ws) few h = absurd h
@@ -116,8 +116,8 @@ module _ (limit : ℕ) where
         same-lengths = ap suc a.same-lengths;
         same-weights = ap suc a.same-weights;
         few = few;
-        places-good = both (place_in_range_lem y) (every place_in_range_lem zs) m.place a.places-good;
+        places-good = both (place_in_range_lem y) (list_all place_in_range_lem zs) m.place a.places-good;
         places-rise = after-rising y zs ls ws m.place h.1;
-        lengths-good = both (length_in_range_lem l) (every length_in_range_lem ls) m.label_length a.lengths-good;
-        weights-good = both (weight_in_range_lem w) (every weight_in_range_lem ws) m.weight a.weights-good;
+        lengths-good = both (length_in_range_lem l) (list_all length_in_range_lem ls) m.label_length a.lengths-good;
+        weights-good = both (weight_in_range_lem w) (list_all weight_in_range_lem ws) m.weight a.weights-good;
       }

@@ -6,7 +6,7 @@ use mathlib.Core.List.{List}
 use Prim.Native.Nat.{ℕ, ◌≤◌, ◌<◌}
 use borrow.Author.Tests.{le-leb, lt-leb}
 use Rattle.geometry.specs.Strip.{Strip}
-use Rattle.geometry.specs.Refusal.{accepted, refusal_number, list_too_short, number_of}
+use Rattle.geometry.specs.Refusal.{accepted, refusal_number, ListTooShort, number_of}
 use Rattle.job.specs.Outcome.{verdict_of}
 use Rattle.job.specs.Decode.{decode_header, decode}
 use Rattle.job.specs.Calls.{ReadContract, shortest, read_into, used_of}
@@ -27,10 +27,10 @@ module _ (lent : Strip) (job : List ℕ) (h : HeaderRead) (read : Reports h.numb
     pub header-given : IsGiven (decode_header job) (HeaderAt job h)
     header-given = reported-given h.number _ _ read good
 
-    pub lists-short : shortest lent < h.count → IsRefused (refusal_number list_too_short) (read_into lent job)
+    pub lists-short : shortest lent < h.count → IsRefused (refusal_number ListTooShort) (read_into lent job)
     unfolding decode
     lists-short short =
-        refused-is list_too_short (rw (header-given.is, header-given.holds.count-is, lt-leb h.count (shortest lent) short) refl)
+        refused-is ListTooShort (rw (header-given.is, header-given.holds.count-is, lt-leb h.count (shortest lent) short) refl)
 
     pub records-left : h.count ≤ shortest lent → read_into lent job ≡ marks_behind job h.count h.dot
     unfolding decode

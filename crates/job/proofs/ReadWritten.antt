@@ -14,7 +14,7 @@ use lib.Signed.{le_z}
 use Rattle.geometry.specs.Dot.{dot}
 use Rattle.geometry.specs.Mark.{place_in_range_lem, most_place}
 use Rattle.geometry.specs.Strip.{Strip}
-use Rattle.geometry.specs.Refusal.{stray_bit}
+use Rattle.geometry.specs.Refusal.{StrayBit}
 use Rattle.geometry.specs.inner.Place.{place_of_lem, most_dot}
 use Rattle.geometry.proofs.Split.{lt-or-ge, clash, one-to}
 use Rattle.geometry.proofs.Dots.{dot-add, range-dots, range-mag}
@@ -134,7 +134,7 @@ unfolding decode_record
 record-inverse first z [] x pz h e = let k : ◌≡◌ {A = ℕ} 0 1 = cc in absurd (omega arith)
 record-inverse first z (map ∷ bs) x pz h e =
     let after : Front ℤ → Outcome (Front SignedMark) = λ place. decode_label place.value map place.rest in
-    let p = checked-given (not (has_stray_bit_lem first map)) stray_bit (and_then (decode_place first z map bs) after) x e in
+    let p = checked-given (not (has_stray_bit_lem first map)) StrayBit (and_then (decode_place first z map bs) after) x e in
     let q = then-given (decode_place first z map bs) after x p.after in
     let place = place-inverse first z map bs q.first (λ i. h (suc i)) q.is in
     let label = label-inverse (place_after first z place.step.value) map place.step.rest x place.step_back.tail

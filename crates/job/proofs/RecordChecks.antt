@@ -10,7 +10,7 @@ use native.Mathlib.Nat.{add-zero}
 use lib.IntN.{ℤ}
 use lib.ListN.{drop}
 use Rattle.geometry.specs.Mark.{most_length, most_weight}
-use Rattle.geometry.specs.Refusal.{refusal_number, stray_bit, out_of_range}
+use Rattle.geometry.specs.Refusal.{refusal_number, StrayBit, OutOfRange}
 use Rattle.geometry.specs.inner.Place.{place_of_lem, most_dot}
 use Rattle.geometry.proofs.Places.{place-step, place-below, place-above}
 use Rattle.job.specs.Outcome.{Outcome}
@@ -47,9 +47,9 @@ module _ (job : List ℕ) (at map : ℕ) (first : Bool) (d : ℕ) (sr : FieldRea
     lies = rw (stepped.holds.value-is, is-added) (after-dot first d sr.value)
 
     -- a place above the range is refused 4, any other is given
-    pub place-far : most_dot < d + added → IsRefused (refusal_number out_of_range) placed
+    pub place-far : most_dot < d + added → IsRefused (refusal_number OutOfRange) placed
     unfolding decode_place
-    place-far far = refused-is out_of_range (rw (stepped.is, lies, place-above (d + added) far) refl)
+    place-far far = refused-is OutOfRange (rw (stepped.is, lies, place-above (d + added) far) refl)
 
     pub place_read : d + added ≤ most_dot → Reports 0 placed (PlaceAt job (record { number = 0; dot = d + added; next = sr.next }))
     unfolding decode_place
@@ -105,9 +105,9 @@ module _ (job : List ℕ) (at : ℕ) (first : Bool) (d map : ℕ) (begins : drop
   found = decode_record first (place_of_lem d) (drop at job)
 
   -- a bit that must not stand
-  pub stray-refused : has_stray_bit_lem first map ≡ true → IsRefused (refusal_number stray_bit) found
+  pub stray-refused : has_stray_bit_lem first map ≡ true → IsRefused (refusal_number StrayBit) found
   unfolding decode_record
-  stray-refused stray = refused-is stray_bit (rw (begins, stray) refl)
+  stray-refused stray = refused-is StrayBit (rw (begins, stray) refl)
 
   module _ (calm : has_stray_bit_lem first map ≡ false) (pr : PlaceRead)
       (place : Reports pr.number (decode_place first (place_of_lem d) map (drop (at + 1) job)) (PlaceAt job pr)) where

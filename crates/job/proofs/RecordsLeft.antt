@@ -11,7 +11,7 @@ use lib.Dec.{eqb}
 use lib.IntN.{ℤ}
 use lib.ListN.{length, drop, length-drop}
 use Rattle.geometry.specs.Strip.{Strip}
-use Rattle.geometry.specs.Refusal.{Refusal, accepted, number_of, bytes_left_over}
+use Rattle.geometry.specs.Refusal.{Refusal, accepted, number_of, BytesLeftOver}
 use Rattle.geometry.specs.inner.Place.{place_of_lem, most_dot}
 use Rattle.geometry.proofs.Split.{by_eqb}
 use Rattle.job.specs.Outcome.{Outcome, given, refusal, verdict_of}
@@ -32,7 +32,7 @@ records-over job count at d i k h =
     rw (none, length-drop at job, le-leb (length job - at) 0 (omega arith)) refl
 
 -- and refusal 5 if one is
-pub bytes-over : (job : List ℕ) (count at d i : ℕ) → count ≤ i → at < length job → left_at job count at d i ≡ refusal bytes_left_over
+pub bytes-over : (job : List ℕ) (count at d i : ℕ) → count ≤ i → at < length job → left_at job count at d i ≡ refusal BytesLeftOver
 unfolding decode_records
 bytes-over job count at d i k h =
     let none : count - i ≡ 0 = omega arith in

@@ -10,7 +10,7 @@ use borrow.Author.Tests.{ltb-true, lt-ltb}
 use lib.IntN.{ℤ, pos}
 use lib.Signed.{lt_z}
 use lib.ListN.{length, get_or}
-use Rattle.geometry.specs.Lists.{every}
+use Rattle.std.specs.List.{list_all}
 use Rattle.geometry.specs.Dot.{dot}
 use Rattle.geometry.specs.Mark.{place_in_range_lem, rising}
 use Rattle.geometry.proofs.Split.{and-fst, and-snd, both}
@@ -31,7 +31,7 @@ rising-rest z [] e = refl
 rising-rest z (y ∷ zs) e = and-snd (lt_z z y) (rising (y ∷ zs)) e
 
 -- the first two places of a list that rises, and any two neighbours
-pub rising-first : (z y : ℤ) (zs : List ℤ) → every place_in_range_lem (z ∷ y ∷ zs) ≡ true → rising (z ∷ y ∷ zs) ≡ true → dot z < dot y
+pub rising-first : (z y : ℤ) (zs : List ℤ) → list_all place_in_range_lem (z ∷ y ∷ zs) ≡ true → rising (z ∷ y ∷ zs) ≡ true → dot z < dot y
 unfolding rising
 rising-first z y zs good e =
     let behind = rest-good place_in_range_lem z (y ∷ zs) good in
@@ -42,7 +42,7 @@ pub rising-more : (z y : ℤ) (zs : List ℤ) → lt_z z y ≡ true → rising (
 unfolding rising
 rising-more z y zs e f = both (lt_z z y) (rising (y ∷ zs)) e f
 
-pub rising-at : (zs : List ℤ) (i : ℕ) → every place_in_range_lem zs ≡ true → rising zs ≡ true → suc i < length zs
+pub rising-at : (zs : List ℤ) (i : ℕ) → list_all place_in_range_lem zs ≡ true → rising zs ≡ true → suc i < length zs
     → dot (get_or zs i (pos 0)) < dot (get_or zs (suc i) (pos 0))
 rising-at [] i good e h = absurd (omega arith)
 rising-at (z ∷ []) i good e h = absurd (omega arith)

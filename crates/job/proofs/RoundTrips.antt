@@ -12,7 +12,7 @@ use lib.IntN.{ℤ}
 use lib.ListN.{length, drop}
 use Rattle.geometry.specs.Mark.{place_in_range_lem}
 use Rattle.geometry.specs.Strip.{Strip, most_marks}
-use Rattle.geometry.specs.Refusal.{accepted, list_too_short}
+use Rattle.geometry.specs.Refusal.{accepted, ListTooShort}
 use Rattle.geometry.specs.Entry.{entry}
 use Rattle.geometry.proofs.Accepted.{entry-accepted, accepted-entry}
 use Rattle.job.specs.Number.{Bytes}
@@ -78,9 +78,9 @@ module _ (shortest : ℕ) (job : List ℕ) (s : Strip) (read : decode shortest j
   unfolding decode
   parts =
       let p = then-given (decode_header job)
-      (λ h. checked (leb h.count shortest) list_too_short (decode_records h.count true h.place (drop header_length job))) s read in
+      (λ h. checked (leb h.count shortest) ListTooShort (decode_records h.count true h.place (drop header_length job))) s read in
       let h = p.first in
-      let q = checked-given (leb h.count shortest) list_too_short (decode_records h.count true h.place (drop header_length job)) s p.after in
+      let q = checked-given (leb h.count shortest) ListTooShort (decode_records h.count true h.place (drop header_length job)) s p.after in
       record { header = h; header-good = header-inverse job h p.is; records = q.after }
 
   -- the header counts the marks
@@ -128,12 +128,12 @@ read-then-written shortest room job s bytes e h =
 
 -- a job that is read with enough room is refused 9 with less
 pub read-too-short : (enough shortest : ℕ) (job : List ℕ) (s : Strip) → decode enough job ≡ given s → shortest < length s.places
-    → decode shortest job ≡ refusal list_too_short
+    → decode shortest job ≡ refusal ListTooShort
 unfolding decode
 read-too-short enough shortest job s read h =
     let p = then-given (decode_header job)
-    (λ h. checked (leb h.count enough) list_too_short (decode_records h.count true h.place (drop header_length job))) s read in
-    let q = checked-given (leb p.first.count enough) list_too_short _ s p.after in
+    (λ h. checked (leb h.count enough) ListTooShort (decode_records h.count true h.place (drop header_length job))) s read in
+    let q = checked-given (leb p.first.count enough) ListTooShort _ s p.after in
     let n = (count-marks p.first.count true p.first.place (drop header_length job) s q.after).places_count in
     rw (p.is, lt-leb p.first.count shortest (omega arith)) refl
 

@@ -10,7 +10,7 @@ use lib.IntN.{ℤ}
 use lib.ListN.{length}
 use lib.Seq.{sets}
 use Rattle.geometry.specs.Strip.{Strip, most_marks}
-use Rattle.geometry.specs.Refusal.{Verdict, accepted, refused, number_of, refusal_number, list_too_short}
+use Rattle.geometry.specs.Refusal.{Verdict, accepted, refused, number_of, refusal_number, ListTooShort}
 use Rattle.geometry.specs.Entry.{entry}
 use Rattle.job.specs.Number.{bytes_of, word_of}
 use Rattle.job.specs.Outcome.{Outcome, given, checked}
@@ -34,9 +34,9 @@ module _ (room : ℕ) (s : Strip) where
   unfolding job_for
   entry-refused n e h = after-refused n (entry most_marks s) _ e h
 
-  pub job-too-long : Writable s → room < length (encode s) → IsRefused (refusal_number list_too_short) (job_for room s)
+  pub job-too-long : Writable s → room < length (encode s) → IsRefused (refusal_number ListTooShort) (job_for room s)
   unfolding job_for
-  job-too-long e h = refused-is list_too_short (rw (e, lt-leb (length (encode s)) room h) refl)
+  job-too-long e h = refused-is ListTooShort (rw (e, lt-leb (length (encode s)) room h) refl)
 
   pub job-made : Writable s → length (encode s) ≤ room → job_for room s ≡ given (encode s)
   unfolding job_for
@@ -83,7 +83,7 @@ pub record Made (room : ℕ) (s : Strip) (job : List ℕ) : Type 0 where
 pub job-inverse : (room : ℕ) (s : Strip) (job : List ℕ) → job_for room s ≡ given job → Made room s job
 unfolding job_for
 job-inverse room s job e =
-    let p = after-given (entry most_marks s) (checked (leb (length (encode s)) room) list_too_short (given (encode s))) job e in
-    let q = checked-given (leb (length (encode s)) room) list_too_short (given (encode s)) job p.1 in
+    let p = after-given (entry most_marks s) (checked (leb (length (encode s)) room) ListTooShort (given (encode s))) job e in
+    let q = checked-given (leb (length (encode s)) room) ListTooShort (given (encode s)) job p.1 in
     let same = given-same q.after in
     record { writable = p.0; bytes-are = same; enough = rw same at (leb-true (length (encode s)) room q.passes) }

@@ -3,7 +3,7 @@ use Rattle.std.specs.Prelude.{ℕ, zero, suc, List, [], ◌∷◌, Bool, true, f
 use Rattle.std.specs.Int.Signed.{le_z}
 use Rattle.geometry.specs.Mark.{place_in_range_lem, most_place}
 use Rattle.geometry.specs.Strip.{Strip, strip, most_marks}
-use Rattle.geometry.specs.Refusal.{bytes_end, stray_bit, absent_value, out_of_range, bytes_left_over, list_too_short}
+use Rattle.geometry.specs.Refusal.{BytesEnd, StrayBit, AbsentValue, OutOfRange, BytesLeftOver, ListTooShort}
 use Rattle.job.specs.Number.{big_endian, signed}
 use Rattle.job.specs.Outcome.{Outcome, given, refusal, checked, and_then}
 use Rattle.job.specs.Format.{word_width, header_length, Field, step_field, length_field, weight_field, bit_stands, stray_bits}
@@ -19,9 +19,9 @@ front value rest = record { value = value; rest = rest }
 -- "reader, each field in turn: 1 bytes end inside it; 3 it holds its absent value; 4 out of range"
 unfoldable pub standing_field : Field → List ℕ → Outcome (Front ℕ)
 standing_field f bs =
-    checked (leb f.width (length bs)) bytes_end
-    (checked (not (eqb (big_endian (take f.width bs)) f.absent)) absent_value
-    (checked (f.in_range (big_endian (take f.width bs))) out_of_range
+    checked (leb f.width (length bs)) BytesEnd
+    (checked (not (eqb (big_endian (take f.width bs)) f.absent)) AbsentValue
+    (checked (f.in_range (big_endian (take f.width bs))) OutOfRange
     (given (front (big_endian (take f.width bs)) (drop f.width bs)))))
 
 -- "only the fields whose bit stands": another has its absent value and no bytes
@@ -42,7 +42,7 @@ place_after false z step = z +ℤ pos step
 unfoldable pub decode_place : Bool → ℤ → ℕ → List ℕ → Outcome (Front ℤ)
 decode_place first z map_byte bs =
     and_then (decode_field step_field map_byte bs) (λ step.
-    checked (le_z (place_after first z step.value) most_place) out_of_range
+    checked (le_z (place_after first z step.value) most_place) OutOfRange
     (given (front (place_after first z step.value) step.rest)))
 
 -- a mark whose place is signed; that of geometry's `Mark` is a dot
@@ -67,9 +67,9 @@ has_stray_bit_lem first map_byte = stray_bits map_byte || (first && bit_stands s
 
 -- "reader, each record in turn: 1 map byte missing; 2 ..", then its fields
 unfoldable pub decode_record : Bool → ℤ → List ℕ → Outcome (Front SignedMark)
-decode_record first z [] = refusal bytes_end
+decode_record first z [] = refusal BytesEnd
 decode_record first z (map_byte ∷ bs) =
-    checked (not (has_stray_bit_lem first map_byte)) stray_bit
+    checked (not (has_stray_bit_lem first map_byte)) StrayBit
     (and_then (decode_place first z map_byte bs) (λ place. decode_label place.value map_byte place.rest))
 
 abbrev pub no_marks : Strip
@@ -84,7 +84,7 @@ with_mark m (refusal r) = refusal r
 
 -- n records, and "after the last record: 5 bytes left over"
 unfoldable pub decode_records : ℕ → Bool → ℤ → List ℕ → Outcome Strip
-decode_records zero first z bs = checked (leb (length bs) 0) bytes_left_over (given no_marks)
+decode_records zero first z bs = checked (leb (length bs) 0) BytesLeftOver (given no_marks)
 decode_records (suc n) first z bs =
     and_then (decode_record first z bs) (λ m. with_mark m.value (decode_records n false m.value.place m.rest))
 
@@ -113,8 +113,8 @@ header_in_range_lem count place = leb count most_marks && (place_in_range_lem pl
 -- "reader, header: 1 fewer than 4 bytes; then 4 .."
 unfoldable pub decode_header : List ℕ → Outcome Header
 decode_header bs =
-    checked (leb header_length (length bs)) bytes_end
-    (checked (header_in_range_lem (header_count bs) (header_place bs)) out_of_range
+    checked (leb header_length (length bs)) BytesEnd
+    (checked (header_in_range_lem (header_count bs) (header_place bs)) OutOfRange
     (given (header_of (header_count bs) (header_place bs))))
 
 -- the header; then "reader, mark lists: 9 a lent list shorter than the count", the shortest of them having `shortest` elements; then
@@ -122,5 +122,5 @@ decode_header bs =
 unfoldable pub decode : ℕ → List ℕ → Outcome Strip
 decode shortest bs =
     and_then (decode_header bs) (λ h.
-    checked (leb h.count shortest) list_too_short
+    checked (leb h.count shortest) ListTooShort
     (decode_records h.count true h.place (drop header_length bs)))

@@ -3,7 +3,7 @@
 use Rattle.std.specs.Prelude.{ℕ, ◌+◌, ◌-◌, ◌^◌, List, [], ◌∷◌, ◌++◌, Bool, true, false, cond, leb, eqb, ℤ, pos, length, get_or}
 use Rattle.geometry.specs.Dot.{dot}
 use Rattle.geometry.specs.Strip.{Strip, most_marks}
-use Rattle.geometry.specs.Refusal.{Verdict, accepted, refused, list_too_short}
+use Rattle.geometry.specs.Refusal.{Verdict, accepted, refused, ListTooShort}
 use Rattle.geometry.specs.Entry.{entry}
 use Rattle.job.specs.Number.{bytes_of, word_of}
 use Rattle.job.specs.Outcome.{Outcome, given, refusal, checked}
@@ -56,4 +56,4 @@ after_entry (refused r) o = refusal r
 -- "passes and writer, on entry: 6 mark lists of unequal length; then 7 too many marks (writer: over 4,000); then 8 a value out of
 -- range or places not rising"; then "9 .. the job longer than the output", which has `room` bytes
 unfoldable pub job_for : ℕ → Strip → Outcome (List ℕ)
-job_for room s = after_entry (entry most_marks s) (checked (leb (length (encode s)) room) list_too_short (given (encode s)))
+job_for room s = after_entry (entry most_marks s) (checked (leb (length (encode s)) room) ListTooShort (given (encode s)))

@@ -11,11 +11,12 @@ use lib.Dec.{leb}
 use lib.IntN.{pos}
 use lib.ListN.{length, drop}
 use borrow.Author.Tests.{le-leb}
-use Rattle.geometry.specs.Lists.{every, first_of}
+use Rattle.geometry.specs.Lists.{first_of}
+use Rattle.std.specs.List.{list_all}
 use Rattle.geometry.specs.Mark.{most_length, length_in_range_lem}
 use Rattle.geometry.specs.Strip.{Strip, most_marks}
 use Rattle.geometry.specs.Position.{Position}
-use Rattle.geometry.specs.Refusal.{Verdict, accepted, refused, number_of, refusal_number, no_placing}
+use Rattle.geometry.specs.Refusal.{Verdict, accepted, refused, number_of, refusal_number, NoPlacing}
 use Rattle.geometry.specs.Pass.{cleared, work_after}
 use Rattle.geometry.proofs.Split.{both, one-to, by_bool}
 use Rattle.geometry.proofs.Lent.{cleared-again, drop-cleared}
@@ -30,8 +31,7 @@ use Rattle.largest.proofs.FullAtWidth.{not_there, is-there, there-within}
 use Rattle.largest.proofs.InTurn.{first_fits, next-width, none_left}
 
 -- at 1 dot no length is over 240
-one-dot : (cells : List ℕ) → every length_in_range_lem cells ≡ true → none_over_lem 1 cells ≡ true
-unfolding every
+one-dot : (cells : List ℕ) → list_all length_in_range_lem cells ≡ true → none_over_lem 1 cells ≡ true
 one-dot [] good = refl
 one-dot (c ∷ cells) good =
     let few = (one-to most_length c (first_good length_in_range_lem c cells good)).1 in
@@ -109,7 +109,7 @@ module _ (s : Strip) (g : ℕ) (entry : FullLent) where
             }
 
         -- none fits
-        pub none-fits : width ≡ 1 → (r : Largest) → r.number ≡ refusal_number no_placing → r.width ≡ 0 → LargestContract s g entry exit r
+        pub none-fits : width ≡ 1 → (r : Largest) → r.number ≡ refusal_number NoPlacing → r.width ≡ 0 → LargestContract s g entry exit r
         none-fits last r number-11 width-0 =
             let none_found : largest_width g s ≡ none =
             fewer ∙ rw last (none_left (fits_at g s)) in

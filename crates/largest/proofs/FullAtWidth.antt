@@ -12,7 +12,7 @@ use native.Mathlib.Omega.{arith}
 use lib.Dec.{leb, eqb}
 use lib.ListN.{length, length-map}
 use borrow.Author.Tests.{le-leb, eq-eqb, eqb-true}
-use Rattle.geometry.specs.Lists.{every}
+use Rattle.std.specs.List.{list_all}
 use Rattle.geometry.specs.Mark.{most_length, length_in_range_lem}
 use Rattle.geometry.specs.Strip.{Strip, strip, marks_of, most_marks}
 use Rattle.geometry.specs.Position.{Position}
@@ -42,9 +42,8 @@ there-within false o e = e
 
 module _ (width : ℕ) where
   -- cells in range make lengths in range where none is over 240
-  lengths-good : (cells : List ℕ) → 1 ≤ width → every length_in_range_lem cells ≡ true → none_over_lem width cells ≡ true
-      → every length_in_range_lem (lengths_at width cells) ≡ true
-  unfolding every
+  lengths-good : (cells : List ℕ) → 1 ≤ width → list_all length_in_range_lem cells ≡ true → none_over_lem width cells ≡ true
+      → list_all length_in_range_lem (lengths_at width cells) ≡ true
   lengths-good [] wide good within = refl
   lengths-good (c ∷ cells) wide good within =
       let here = leb (c * width) most_length in
@@ -54,8 +53,7 @@ module _ (width : ℕ) where
       (lengths-good cells wide (rest-good length_in_range_lem c cells good) (and-snd here (none_over_lem width cells) within))
 
   -- and lengths in range are not over 240
-  good-within : (cells : List ℕ) → every length_in_range_lem (lengths_at width cells) ≡ true → none_over_lem width cells ≡ true
-  unfolding every
+  good-within : (cells : List ℕ) → list_all length_in_range_lem (lengths_at width cells) ≡ true → none_over_lem width cells ≡ true
   good-within [] good = refl
   good-within (c ∷ cells) good =
       let rest = lengths_at width cells in

@@ -8,11 +8,12 @@ use mathlib.Core.Option.{Option, none, some}
 use Prim.Native.Nat.{ℕ}
 use native.Mathlib.Omega.{arith}
 use lib.ListN.{length, drop_of_length-le}
-use Rattle.geometry.specs.Lists.{every, first_of, words_of}
+use Rattle.geometry.specs.Lists.{first_of, words_of}
+use Rattle.std.specs.List.{list_all}
 use Rattle.geometry.specs.Strip.{Strip, marks_of_lists, most_marks}
 use Rattle.geometry.specs.Overlap.{free}
 use Rattle.geometry.specs.Placing.{first_placing}
-use Rattle.geometry.specs.Refusal.{accepted, refusal_number, no_placing}
+use Rattle.geometry.specs.Refusal.{accepted, refusal_number, NoPlacing}
 use Rattle.geometry.proofs.Split.{clash}
 use Rattle.geometry.proofs.Words.{never-none}
 use Rattle.geometry.proofs.Accepted.{pass-accepted}
@@ -26,7 +27,7 @@ use Rattle.largest.proofs.GreatestFirst.{first-greatest, greatest-first, none-fi
 
 -- no marks: no length is over 240, and the placing has no labels
 empty-fits : (g : ℕ) (s : Strip) (width : ℕ) → s.places ≡ [] → s.lengths ≡ [] → fits_at g s width ≡ true
-unfolding placing_at first_placing first_of words_of free marks_of_lists every
+unfolding placing_at first_placing first_of words_of free marks_of_lists
 empty-fits g s width no-places no_lengths = rw (no-places, no_lengths) refl
 
 some_same : {v w : ℕ} → ◌≡◌ {A = Option ℕ} (some v) (some w) → v ≡ w
@@ -76,7 +77,7 @@ module _ (g : ℕ) (s : Strip) where
 
     -- none is
     module _ (none_found : largest_width g s ≡ none) where
-      number-is-11 : r.number ≡ refusal_number no_placing
+      number-is-11 : r.number ≡ refusal_number NoPlacing
       number-is-11 = met.number_is ∙ rw (checked, none_found) refl
 
       none-is-largest : {X : Type 0} → (width : ℕ) → IsLargest g s width → X

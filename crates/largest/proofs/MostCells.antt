@@ -12,7 +12,7 @@ use lib.Dec.{leb}
 use lib.ListN.{length, get_or, drop}
 use lib.Seq.{drop-cons, drop-length}
 use borrow.Author.Tests.{le-leb, lt-leb}
-use Rattle.geometry.specs.Lists.{every}
+use Rattle.std.specs.List.{list_all}
 use Rattle.geometry.specs.Mark.{most_length}
 use Rattle.geometry.proofs.Split.{by-leb, same_test, lt-or-ge}
 use Rattle.largest.specs.Widths.{none_over_lem}
@@ -51,7 +51,7 @@ max-within x y most =
     (λ h. lt-leb (max x y) most (omega arith))
 
 pub most-decides : (cells : List ℕ) (width : ℕ) → leb (most_of cells * width) most_length ≡ none_over_lem width cells
-unfolding most_of every
+unfolding most_of
 most-decides [] width = le-leb (0 * width) most_length (omega arith)
 most-decides (c ∷ cells) width =
     ap (λ k. leb k most_length) (max-times c (most_of cells) width) ∙ max-within (c * width) (most_of cells * width) most_length

@@ -6,7 +6,8 @@ use mathlib.Core.List.{[], ◌∷◌, map}
 use mathlib.Core.Option.{some}
 use lib.IntN.{pos}
 use lib.ListN.{replicate}
-use Rattle.geometry.specs.Lists.{every, first_of, prefixed, words_of}
+use Rattle.geometry.specs.Lists.{first_of, prefixed, words_of}
+use Rattle.std.specs.List.{list_all}
 use Rattle.geometry.specs.Strip.{Strip, strip, marks_of_lists}
 use Rattle.geometry.specs.Position.{above, below, leftward, rightward, at}
 use Rattle.geometry.specs.Overlap.{apart, free}
@@ -17,14 +18,14 @@ abbrev touching : Strip
 touching = strip (map pos (0 ∷ 1 ∷ 2 ∷ 3 ∷ 161 ∷ [])) (replicate 5 80) (replicate 5 1)
 
 pub width-example : largest_width 0 touching ≡ some 2
-unfolding first_of widths_from placing_at every first_placing words_of prefixed free apart marks_of_lists
+unfolding first_of widths_from placing_at first_placing words_of prefixed free apart marks_of_lists
 width-example = refl
 
 pub placing-example : placing_at 0 touching 2
     ≡ some (at above leftward ∷ at above rightward ∷ at below leftward ∷ at below rightward ∷ at above rightward ∷ [])
-unfolding first_of placing_at every first_placing words_of prefixed free apart marks_of_lists
+unfolding first_of placing_at first_placing words_of prefixed free apart marks_of_lists
 placing-example = refl
 
 pub gap-example : largest_width 1 touching ≡ some 1
-unfolding first_of widths_from placing_at every first_placing words_of prefixed free apart marks_of_lists
+unfolding first_of widths_from placing_at first_placing words_of prefixed free apart marks_of_lists
 gap-example = refl

@@ -3,7 +3,7 @@
 use Rattle.std.specs.Prelude.{ℕ, ◌≤◌, ◌<◌, ◌≡◌, Bool, true, false, ◌↔◌, [], pos}
 use Rattle.std.proofs.Math.Option.{Option, none, some}
 use Rattle.geometry.specs.Strip.{Strip}
-use Rattle.geometry.specs.Refusal.{Verdict, accepted, refused, number_of, refusal_number, no_placing}
+use Rattle.geometry.specs.Refusal.{Verdict, accepted, refused, number_of, refusal_number, NoPlacing}
 use Rattle.geometry.specs.Pass.{work_after}
 use Rattle.full.specs.Full.{work_named, FullLent, full_checks, full_verdict, positions_after}
 use Rattle.largest.specs.Widths.{fits_at, widest, largest_width, placing_of}
@@ -39,7 +39,7 @@ pub record LargestInWords (s : Strip) (g : ℕ) (r : Largest) : Type 0 where
   pub found : r.number ≡ 0 → IsLargest g s r.width
   pub only : (width : ℕ) → IsLargest g s width → (r.number ≡ 0) × (r.width ≡ width)
   -- "if width 1 doesn't fit, the answer is 11", and only then
-  pub none-exactly : (r.number ≡ refusal_number no_placing) ↔ (fits_at g s 1 ≡ false)
+  pub none-exactly : (r.number ≡ refusal_number NoPlacing) ↔ (fits_at g s 1 ≡ false)
   -- "It follows that every smaller width fits too"
   pub smaller-fit : r.number ≡ 0 → (w : ℕ) → w ≤ r.width → fits_at g s w ≡ true
   -- "An empty strip has width 30."

@@ -2,7 +2,8 @@
 -- lengths of cells times width. A length over 240 counts as not fitting." (document 02, P6) Here a strip has cells in place of lengths.
 use Rattle.std.specs.Prelude.{ℕ, zero, suc, ◌*◌, Bool, true, false, cond, List, [], ◌∷◌, map, leb}
 use Rattle.std.proofs.Math.Option.{Option, none, some}
-use Rattle.geometry.specs.Lists.{every, first_of}
+use Rattle.geometry.specs.Lists.{first_of}
+use Rattle.std.specs.List.{list_all}
 use Rattle.geometry.specs.Mark.{most_length}
 use Rattle.geometry.specs.Strip.{Strip, strip, marks_of}
 use Rattle.geometry.specs.Position.{Position}
@@ -18,7 +19,7 @@ strip_at width s = strip s.places (lengths_at width s.lengths) s.weights
 
 -- "A length over 240 counts as not fitting."
 abbrev pub none_over_lem : ℕ → List ℕ → Bool
-none_over_lem width cells = every (λ l. leb l most_length) (lengths_at width cells)
+none_over_lem width cells = list_all (λ l. leb l most_length) (lengths_at width cells)
 
 -- the full pass's placing at a width, at a gap of g dots
 unfoldable pub placing_at : ℕ → Strip → ℕ → Option (List Position)

@@ -6,7 +6,7 @@ use Prim.Native.Nat.{ℕ, ◌≤◌, ◌<◌}
 use native.Mathlib.Omega.{arith}
 use lib.ListN.{length, take, length-take}
 use borrow.Author.Tests.{le-leb, lt-leb}
-use Rattle.geometry.specs.Refusal.{refusal_number, list_too_short}
+use Rattle.geometry.specs.Refusal.{refusal_number, ListTooShort}
 use Rattle.listing.specs.Listing.{ListingContract}
 use Rattle.listing.specs.inner.Append.{Appended}
 use Rattle.listing.specs.inner.Lines.{Listing}
@@ -22,7 +22,7 @@ module _ {job buffer : List ℕ} {next : ℕ} (made : Listing job buffer next) w
 
   -- an output that is too small
   pub refused-call : (output : List ℕ) → length output < next
-      → ListingContract job output output (record { number = refusal_number list_too_short; length = 0 })
+      → ListingContract job output output (record { number = refusal_number ListTooShort; length = 0 })
   refused-call output short =
       let too_long = lt-leb (length made.text) (length output) (omega (arith, made.next-is)) in
       record {

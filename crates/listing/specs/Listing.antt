@@ -6,7 +6,7 @@ use Rattle.geometry.specs.Overlap.{free}
 use Rattle.geometry.specs.Placing.{sum_of, best_sum}
 use Rattle.geometry.specs.Sliding.{Slides}
 use Rattle.geometry.specs.Pass.{written}
-use Rattle.geometry.specs.Refusal.{Verdict, accepted, refused, number_of, after_check, list_too_short}
+use Rattle.geometry.specs.Refusal.{Verdict, accepted, refused, number_of, after_check, ListTooShort}
 use Rattle.best.specs.LeftOut.{left_out_lem}
 use Rattle.job.specs.Outcome.{Outcome, given}
 use Rattle.job.specs.Decode.{decode}
@@ -46,7 +46,7 @@ text_most = 25000
 
 -- "9 .. longer than the output": the one check of the call
 abbrev pub listing_verdict : List ℕ → List ℕ → Verdict
-listing_verdict text output = after_check (leb (length text) (length output)) list_too_short accepted
+listing_verdict text output = after_check (leb (length text) (length output)) ListTooShort accepted
 
 -- what is handed back and the output afterwards: the text in its used part, or nothing at a refusal
 abbrev pub length_given : Verdict → List ℕ → ℕ

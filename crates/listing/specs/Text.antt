@@ -6,7 +6,7 @@ use Rattle.geometry.specs.Mark.{Mark}
 use Rattle.geometry.specs.Strip.{Strip, marks_of, most_short}
 use Rattle.geometry.specs.Position.{Position, code}
 use Rattle.geometry.specs.Placing.{first_placing, best_sum}
-use Rattle.geometry.specs.Refusal.{Refusal, refusal_number, too_many_marks}
+use Rattle.geometry.specs.Refusal.{Refusal, refusal_number, TooManyMarks}
 use Rattle.job.specs.Outcome.{Outcome, given, refusal}
 
 -- "The listing program uses gap 1" (document 02, P2)
@@ -92,7 +92,7 @@ refused_line r = refused_word ++ decimal (refusal_number r) ++ line_end
 
 -- "Above 60 marks, slide and best read "refused 7" after the line's word, and there is no out line."
 abbrev pub too_long : List ℕ
-too_long = refused_line too_many_marks
+too_long = refused_line TooManyMarks
 
 abbrev pub too_long_lines : List ℕ
 too_long_lines = slide_word ++ too_long ++ best_word ++ too_long

@@ -109,7 +109,7 @@ fn drawn(group: &[u8], model: u32, seed: u64, draw: Draw, gap: u8) -> Shown {
 // The lines of a group: how many strips agree, and in how many every mark has a label.
 fn print_random(group: &[u8], agreed: u32, whole: u32) {
     tally::print_group(group, agreed);
-    tally::print_number(b"  every mark labelled in ", whole as u64);
+    tally::print_number(b"  list_all mark labelled in ", whole as u64);
     tally::print(b"\n");
 }
 

@@ -13,7 +13,7 @@ use Rattle.geometry.specs.Mark.{Mark}
 use Rattle.geometry.specs.Strip.{Strip, marks_of, most_short}
 use Rattle.geometry.specs.Position.{Side}
 use Rattle.geometry.specs.Sliding.{leftmost_edges, none_beyond, slides_whole}
-use Rattle.geometry.specs.Refusal.{Verdict, accepted, refused, number_of, refusal_number, no_placing}
+use Rattle.geometry.specs.Refusal.{Verdict, accepted, refused, number_of, refusal_number, NoPlacing}
 use Rattle.geometry.specs.inner.Place.{place_of_lem}
 use Rattle.geometry.specs.inner.Rising.{Rising}
 use Rattle.geometry.specs.Pass.{work_after}
@@ -44,7 +44,7 @@ zero-slides : (t : Bool) (n : ℕ) → n ≡ number_of (slide_verdict accepted t
 zero-slides true n e z = refl
 zero-slides false n e z = absurd (omega arith)
 
-eleven-misses : (t : Bool) (n : ℕ) → n ≡ number_of (slide_verdict accepted t) → (n ≡ refusal_number no_placing) ↔ (t ≡ false)
+eleven-misses : (t : Bool) (n : ℕ) → n ≡ number_of (slide_verdict accepted t) → (n ≡ refusal_number NoPlacing) ↔ (t ≡ false)
 eleven-misses true n e = (λ eleven. absurd (omega arith), λ no. absurd (mathlib.Core.Bool.true≢false no))
 eleven-misses false n e = (λ _. refl, λ _. e)
 

@@ -11,7 +11,7 @@ use lib.IntN.{ℤ}
 use lib.ListN.{length, get_or}
 use Rattle.geometry.specs.Dot.{empty_reach}
 use Rattle.geometry.specs.Pass.{cleared}
-use Rattle.geometry.specs.Refusal.{accepted, number_of, refusal_number, no_placing}
+use Rattle.geometry.specs.Refusal.{accepted, number_of, refusal_number, NoPlacing}
 use Rattle.geometry.proofs.Lent.{cleared-again}
 use Rattle.slide.specs.Slide.{SlideLent, slide_lent, AnswersUnchanged, slide_verdict, work_named}
 use Rattle.slide.specs.inner.Answer.{AnswerReady, Answer}
@@ -80,7 +80,7 @@ module _
       number_by u is = ap (λ (v : Bool). number_of (slide_verdict accepted v)) (sym is ∙ decided)
 
       -- the two cases: 11 with the answer lists unchanged, and 0 with what the walk wrote
-      pub no_answer : t ≡ false → number ≡ refusal_number no_placing → AnswersUnchanged entry exit → Answer places lengths g entry exit number
+      pub no_answer : t ≡ false → number ≡ refusal_number NoPlacing → AnswersUnchanged entry exit → Answer places lengths g entry exit number
       no_answer misses eleven unchanged =
           record {
             number_is = eleven ∙ number_by false misses;

@@ -11,7 +11,7 @@ use lib.ListN.{length, get_or, drop, drop_of_length-le}
 use mir.Syntax.{w16}
 use mir.Val.{to_z, of_z}
 use Rattle.geometry.specs.Dot.{dot}
-use Rattle.geometry.specs.Lists.{every}
+use Rattle.std.specs.List.{list_all}
 use Rattle.geometry.specs.Mark.{Mark, place_in_range_lem, length_in_range_lem, most_length}
 use Rattle.geometry.specs.Pass.{most_gap}
 use Rattle.geometry.proofs.Split.{one-to}
@@ -52,7 +52,7 @@ plain_at_lem (z ∷ zs) (l ∷ ls) zero e h = refl
 plain_at_lem (z ∷ zs) (l ∷ ls) (suc i) e h = plain_at_lem zs ls i (omega arith) (omega arith)
 
 -- every label, with a gap that is not too wide, lies inside the coordinates
-plain-inside : (zs : List ℤ) (ls : List ℕ) (g : ℕ) → every place_in_range_lem zs ≡ true → every length_in_range_lem ls ≡ true → g ≤ most_gap
+plain-inside : (zs : List ℤ) (ls : List ℕ) (g : ℕ) → list_all place_in_range_lem zs ≡ true → list_all length_in_range_lem ls ≡ true → g ≤ most_gap
     → Inside g (plain_marks zs ls)
 unfolding plain_marks
 plain-inside [] ls g p q narrow = tt

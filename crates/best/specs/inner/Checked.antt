@@ -1,6 +1,6 @@
 -- What the checks on entry leave of a strip, and what the pass makes of it.
 use Rattle.std.specs.Prelude.{◌≡◌, List, map, true, ℕ, ◌≤◌, length}
-use Rattle.geometry.specs.Lists.{every}
+use Rattle.std.specs.List.{list_all}
 use Rattle.geometry.specs.Mark.{place_in_range_lem, weight_in_range_lem}
 use Rattle.geometry.specs.Strip.{Strip, most_short}
 use Rattle.geometry.specs.Position.{code}
@@ -14,8 +14,8 @@ pub record Checked (s : Strip) (work : List ℕ) : Type 0 where
   pub same-lengths : length s.places ≡ length s.lengths
   pub same-weights : length s.places ≡ length s.weights
   pub few : length s.places ≤ most_short
-  pub places-good : every place_in_range_lem s.places ≡ true
-  pub weights-good : every weight_in_range_lem s.weights ≡ true
+  pub places-good : list_all place_in_range_lem s.places ≡ true
+  pub weights-good : list_all weight_in_range_lem s.weights ≡ true
   pub roomy : work_named ≤ length work
 
 -- the same with a gap that the passes take

@@ -2,7 +2,7 @@
 -- described by the name of its last label; 0 and 1 name no label.
 use Rattle.std.specs.Prelude.{◌≡◌, List, true, cond, ℕ, ◌+◌, ◌-◌, ◌*◌, ◌/◌, ◌%◌, ◌≤◌, ltb, eqb, ℤ, pos, length, get_or}
 use Rattle.geometry.specs.Dot.{dot, empty_reach}
-use Rattle.geometry.specs.Lists.{every}
+use Rattle.std.specs.List.{list_all}
 use Rattle.geometry.specs.Mark.{Mark, place_in_range_lem}
 use Rattle.geometry.specs.Strip.{Strip, most_short}
 use Rattle.geometry.specs.Position.{Side, Direction, leftward, rightward, Position}
@@ -47,7 +47,7 @@ reach_at g s name = reach_named g s.places s.lengths name
 -- the name is that of no label or of one of a mark of the lists, and the gap is one that the passes take
 pub record Known (g : ℕ) (zs : List ℤ) (ls : List ℕ) (name : ℕ) : Type 0 where
   pub same-lengths : length zs ≡ length ls
-  pub places-good : every place_in_range_lem zs ≡ true
+  pub places-good : list_all place_in_range_lem zs ≡ true
   pub gap-narrow : g ≤ most_gap
   pub within : name / 2 ≤ length zs
 

@@ -1,6 +1,6 @@
 -- The row of the last label x above, as mark k is counted into the table: what its cells share, and the value of a cell by it.
 use Rattle.std.specs.Prelude.{◌≡◌, List, true, cond, ℕ, ◌+◌, ◌≤◌, ◌<◌, max, leb, length, get_or}
-use Rattle.geometry.specs.Lists.{every}
+use Rattle.std.specs.List.{list_all}
 use Rattle.geometry.specs.Mark.{place_in_range_lem, most_weight}
 use Rattle.geometry.specs.Strip.{Strip, most_short}
 use Rattle.geometry.specs.Position.{below, leftward, rightward, at}
@@ -14,7 +14,7 @@ use Rattle.best.specs.inner.Trial.{most_sum, GainAsked, gain_at}
 -- what is asked where a row is begun: the mark is one of the strip, and the list has the reach of the last label above
 pub record RowAsked (s : Strip) (reaches work : List ℕ) (k x : ℕ) : Type 0 where
   pub same-lengths : length s.places ≡ length s.lengths
-  pub places-good : every place_in_range_lem s.places ≡ true
+  pub places-good : list_all place_in_range_lem s.places ≡ true
   pub in-strip : k < length s.places
   pub known : x < length reaches
   pub gain : GainAsked s.weights work k x 0

@@ -1,7 +1,8 @@
 -- A mark is tried at a position, beside the last labels x above and y below: whether it has room, and what it earns with the marks
 -- after it by the table.
 use Rattle.std.specs.Prelude.{◌≡◌, List, Bool, true, ◌&&◌, ℕ, ◌+◌, ◌*◌, ◌/◌, ◌≤◌, ◌<◌, eqb, ℤ, length, get_or}
-use Rattle.geometry.specs.Lists.{every, first_of}
+use Rattle.geometry.specs.Lists.{first_of}
+use Rattle.std.specs.List.{list_all}
 use Rattle.geometry.specs.Mark.{place_in_range_lem, most_weight}
 use Rattle.geometry.specs.Strip.{Strip, most_short}
 use Rattle.geometry.specs.Position.{Position, ranked}
@@ -23,7 +24,7 @@ SmallCells work k x y = (p : Position) → get_or work (cell_after k x y p) 0 �
 -- what the test of room asks: the mark is one of the strip, the last labels are of marks before it, and the gap is one that the passes take
 pub record RoomAsked (g : ℕ) (zs : List ℤ) (ls : List ℕ) (k x y : ℕ) : Type 0 where
   pub same-lengths : length zs ≡ length ls
-  pub places-good : every place_in_range_lem zs ≡ true
+  pub places-good : list_all place_in_range_lem zs ≡ true
   pub gap-narrow : g ≤ most_gap
   pub in-strip : k < length zs
   pub above_before : x / 2 ≤ k

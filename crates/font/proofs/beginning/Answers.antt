@@ -1,7 +1,7 @@
 -- `font::beginning` meets its contract: 13 decides, and where it is passed the bytes that have room are counted.
 use mathlib.Core.Path.{◌≡◌, refl, sym, ◌∙◌}
-use Rattle.geometry.specs.Lists.{every}
-use Rattle.geometry.specs.Refusal.{number_of, stray_byte}
+use Rattle.std.specs.List.{list_all}
+use Rattle.geometry.specs.Refusal.{number_of, StrayByte}
 use Rattle.geometry.proofs.Verdicts.{zero-accepted, one-passed}
 use Rattle.font.specs.Letters.{in_font_lem}
 use Rattle.font.specs.Calls.{letter_check, beginning_verdict}
@@ -13,7 +13,7 @@ unfolding beginning_verdict
 returns-then-number-ne0 c =
     let text = c.args.text.now in
     let number_is : c.check-number.result ≡ number_of (beginning_verdict text) =
-    c.check-number.ensures (every in_font_lem text) stray_byte c.all_in_font.ensures refl in
+    c.check-number.ensures (list_all in_font_lem text) StrayByte c.all_in_font.ensures refl in
     refused-text text number_is c.if-number-ne0.true
 
 pub longest_beginning-requires : goal.longest_beginning-requires
@@ -21,7 +21,7 @@ unfolding beginning_verdict
 longest_beginning-requires c =
     let text = c.args.text.now in
     let number_is : c.check-number.result ≡ number_of (beginning_verdict text) =
-    c.check-number.ensures (every in_font_lem text) stray_byte c.all_in_font.ensures refl in
+    c.check-number.ensures (list_all in_font_lem text) StrayByte c.all_in_font.ensures refl in
     (c.table.ensures, one-passed (letter_check text) (zero-accepted _ (sym number_is ∙ c.if-number-ne0.false)))
 
 pub returns : goal.returns
@@ -29,5 +29,5 @@ unfolding beginning_verdict
 returns c =
     let text = c.args.text.now in
     let number_is : c.check-number.result ≡ number_of (beginning_verdict text) =
-    c.check-number.ensures (every in_font_lem text) stray_byte c.all_in_font.ensures refl in
+    c.check-number.ensures (list_all in_font_lem text) StrayByte c.all_in_font.ensures refl in
     begun text number_is c.if-number-ne0.false c.longest_beginning.ensures

@@ -3,8 +3,8 @@ use mathlib.Core.Path.{◌≡◌, refl}
 use mathlib.Core.List.{[], ◌∷◌}
 use native.Mathlib.Omega.{arith}
 use lib.ListN.{length}
-use Rattle.geometry.specs.Lists.{every}
-use Rattle.geometry.specs.Refusal.{stray_byte, bad_mark}
+use Rattle.std.specs.List.{list_all}
+use Rattle.geometry.specs.Refusal.{StrayByte, BadMark}
 use Rattle.geometry.specs.inner.Checks.{number_of_checks}
 use Rattle.font.specs.Letters.{in_font_lem}
 use Rattle.font.specs.Calls.{letter_check, length_check}
@@ -22,8 +22,8 @@ At-After-first_refusal-number = Lts.After-first_refusal tie.the-claims reads.Pre
 early-is : (c : At-After-first_refusal-number) → c.first_refusal-number.result ≡ number_of_checks (early c.args.text.now)
 early-is c =
     let text = c.args.text.now in
-    let letters = c.check-letters.ensures (every in_font_lem text) stray_byte c.all_in_font.ensures refl in
-    let count = c.check.ensures (count_fits_lem (length text)) bad_mark c.count_fits.ensures refl in
+    let letters = c.check-letters.ensures (list_all in_font_lem text) StrayByte c.all_in_font.ensures refl in
+    let count = c.check.ensures (count_fits_lem (length text)) BadMark c.count_fits.ensures refl in
     c.first_refusal-number.ensures (letter_check text ∷ []) (length_check (count_fits_lem (length text)) ∷ []) (omega (arith, letters))
     (omega (arith, count))
 

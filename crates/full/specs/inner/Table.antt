@@ -1,7 +1,7 @@
 -- The table in the work area, four numbers a mark, and what the functions that fill it and walk over it ask and give.
 use Rattle.std.specs.Prelude.{ℕ, ◌+◌, ◌*◌, ◌≤◌, ◌<◌, ◌≡◌, true, List, map, ℤ, pos, length, get_or, take, drop}
 use Rattle.geometry.specs.Dot.{dot, empty_reach}
-use Rattle.geometry.specs.Lists.{every}
+use Rattle.std.specs.List.{list_all}
 use Rattle.geometry.specs.Mark.{place_in_range_lem, length_in_range_lem}
 use Rattle.geometry.specs.Strip.{Strip, strip, marks_of, most_marks}
 use Rattle.geometry.specs.Position.{code}
@@ -31,8 +31,8 @@ TableHeld work marks = (j q : ℕ) → j < marks → q < 4 → Stored (dot (get_
 pub record Ready (places : List ℤ) (lengths : List ℕ) (g : ℕ) (work : List ℤ) : Type 0 where
   pub same-lengths : length places ≡ length lengths
   pub few : length places ≤ most_marks
-  pub places-good : every place_in_range_lem places ≡ true
-  pub lengths-good : every length_in_range_lem lengths ≡ true
+  pub places-good : list_all place_in_range_lem places ≡ true
+  pub lengths-good : list_all length_in_range_lem lengths ≡ true
   pub gap-narrow : Narrow g
   pub roomy : work_named ≤ length work
 

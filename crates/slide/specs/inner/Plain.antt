@@ -1,7 +1,7 @@
 -- The marks without their weights: no answer of the slide pass depends on a weight, so its inner functions are lent none.
 use Rattle.std.specs.Prelude.{ℕ, ◌≤◌, ◌≡◌, List, [], ◌∷◌, true, ℤ, length}
 use Rattle.geometry.specs.Dot.{dot}
-use Rattle.geometry.specs.Lists.{every}
+use Rattle.std.specs.List.{list_all}
 use Rattle.geometry.specs.Mark.{Mark, place_in_range_lem, length_in_range_lem}
 use Rattle.geometry.specs.Strip.{most_short}
 use Rattle.geometry.specs.Pass.{most_gap}
@@ -19,6 +19,6 @@ plain_marks (z ∷ zs) (l ∷ ls) = plain_mark (dot z) l ∷ plain_marks zs ls
 pub record Checked (places : List ℤ) (lengths : List ℕ) (g : ℕ) : Type 0 where
   pub same_count : length lengths ≡ length places
   pub few : length places ≤ most_short
-  pub places-good : every place_in_range_lem places ≡ true
-  pub lengths-good : every length_in_range_lem lengths ≡ true
+  pub places-good : list_all place_in_range_lem places ≡ true
+  pub lengths-good : list_all length_in_range_lem lengths ≡ true
   pub gap-narrow : g ≤ most_gap

@@ -1,7 +1,7 @@
 -- `font::texts::all_fit` meets its contract: where the texts so far fit, those that are left decide.
 use mathlib.Core.Path.{refl, sym, ◌∙◌}
 use native.Mathlib.Omega.{arith}
-use Rattle.geometry.specs.Lists.{every}
+use Rattle.std.specs.List.{list_all}
 use Rattle.font.proofs.Going.{going-starts, text-readable, text-some, text-within, going_on}
 use Rattle.font.proofs.Going.{left-fails, left-passes, lengths-end}
 use Rattle.font.proofs.texts.all_fit.Goals as goal
@@ -42,7 +42,6 @@ loop-i-preserved c =
     )
 
 pub returns : goal.returns
-unfolding every
 returns c =
     let inv = c.loop-i.invariant in
     sym (inv.1 ∙ rw (lengths-end c.args.texts.now c.args.counts.now _ _ inv.0 (omega arith)) refl)

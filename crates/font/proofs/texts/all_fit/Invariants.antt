@@ -2,7 +2,7 @@
 use mathlib.Core.Path.{◌≡◌}
 use Prim.Native.Nat.{◌-◌}
 use lib.ListN.{length}
-use Rattle.geometry.specs.Lists.{every}
+use Rattle.std.specs.List.{list_all}
 use Rattle.geometry.specs.Mark.{length_in_range_lem}
 use Rattle.font.specs.Text.{lengths_of}
 use Rattle.font.specs.inner.Counts.{Going}
@@ -12,7 +12,7 @@ use Rattle.font.proofs.texts.all_fit.Given as goal
 abbrev pub invariant-loop-i : goal.invariant-loop-i
 invariant-loop-i l =
     Going l.texts l.counts l.at l.i
-    × (every length_in_range_lem (lengths_of l.counts l.texts) ≡ every length_in_range_lem (lengths_left l.texts l.counts l.at l.i))
+    × (list_all length_in_range_lem (lengths_of l.counts l.texts) ≡ list_all length_in_range_lem (lengths_left l.texts l.counts l.at l.i))
 
 abbrev pub decreases-loop-i : goal.decreases-loop-i
 decreases-loop-i l = length l.counts - l.i

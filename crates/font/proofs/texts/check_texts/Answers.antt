@@ -6,10 +6,11 @@ use native.Mathlib.Omega.{arith}
 use lib.Dec.{eqb}
 use lib.ListN.{length}
 use borrow.Author.Tests.{le-leb, leb-true}
-use Rattle.geometry.specs.Lists.{every, sum_list}
+use Rattle.geometry.specs.Lists.{sum_list}
+use Rattle.std.specs.List.{list_all}
 use Rattle.geometry.specs.Mark.{length_in_range_lem}
 use Rattle.geometry.specs.Strip.{most_marks}
-use Rattle.geometry.specs.Refusal.{at_most, lists_unequal, too_many_marks, bad_mark, list_too_short, stray_byte}
+use Rattle.geometry.specs.Refusal.{at_most, ListsUnequal, TooManyMarks, BadMark, ListTooShort, StrayByte}
 use Rattle.geometry.specs.inner.Checks.{number_of_checks}
 use Rattle.geometry.proofs.Verdicts.{count-number}
 use Rattle.font.specs.Letters.{in_font_lem}
@@ -34,9 +35,9 @@ lists-are : (c : At-After-first_refusal-listed)
 lists-are c =
     let texts = c.args.texts.now in
     let counts = c.args.counts.now in
-    let six = c.check-adds.ensures (eqb (sum_list counts) (length texts)) lists_unequal c.counts_add_up.ensures refl in
-    let seven = count-number (length counts) most_marks too_many_marks c.check.ensures (omega (arith, leb-true, le-leb)) in
-    c.first_refusal-listed.ensures (sum_check texts counts ∷ []) (at_most (length counts) most_marks too_many_marks ∷ [])
+    let six = c.check-adds.ensures (eqb (sum_list counts) (length texts)) ListsUnequal c.counts_add_up.ensures refl in
+    let seven = count-number (length counts) most_marks TooManyMarks c.check.ensures (omega (arith, leb-true, le-leb)) in
+    c.first_refusal-listed.ensures (sum_check texts counts ∷ []) (at_most (length counts) most_marks TooManyMarks ∷ [])
     (omega (arith, six)) (omega (arith, seven))
 
 -- the bytes and the counts are looked at, and what was passed before
@@ -48,9 +49,9 @@ bytes-are : (c : At-After-first_refusal-read)
 bytes-are c =
     let texts = c.args.texts.now in
     let counts = c.args.counts.now in
-    let thirteen = c.check-letters.ensures (every in_font_lem texts) stray_byte c.all_in_font.ensures refl in
-    let eight = c.check-2.ensures (every count_fits_lem counts) bad_mark c.counts_fit.ensures refl in
-    c.first_refusal-read.ensures (letter_check texts ∷ []) (length_check (every count_fits_lem counts) ∷ [])
+    let thirteen = c.check-letters.ensures (list_all in_font_lem texts) StrayByte c.all_in_font.ensures refl in
+    let eight = c.check-2.ensures (list_all count_fits_lem counts) BadMark c.counts_fit.ensures refl in
+    c.first_refusal-read.ensures (letter_check texts ∷ []) (length_check (list_all count_fits_lem counts) ∷ [])
     (omega (arith, thirteen)) (omega (arith, eight))
 
 pub returns-then-listed-ne0 : goal.returns-then-listed-ne0
@@ -77,8 +78,8 @@ returns c =
     let room = c.args.room in
     let passed = let fitted = c.before.before.before in fitted.before.before in
     let l = passed.before in
-    let eight = c.check-measured.ensures (every length_in_range_lem (lengths_of counts texts)) bad_mark c.all_fit.ensures refl in
-    let nine = count-number (length counts) room list_too_short c.check-3.ensures (omega (arith, leb-true, le-leb)) in
+    let eight = c.check-measured.ensures (list_all length_in_range_lem (lengths_of counts texts)) BadMark c.all_fit.ensures refl in
+    let nine = count-number (length counts) room ListTooShort c.check-3.ensures (omega (arith, leb-true, le-leb)) in
     lengths-decide texts counts room (lists-are (compared l)) c.if-listed-ne0.false (bytes-are l) c.if-read-ne0.false
-    (c.first_refusal.ensures (length_check (every length_in_range_lem (lengths_of counts texts)) ∷ [])
-    (at_most (length counts) room list_too_short ∷ []) (omega (arith, eight)) (omega (arith, nine)))
+    (c.first_refusal.ensures (length_check (list_all length_in_range_lem (lengths_of counts texts)) ∷ [])
+    (at_most (length counts) room ListTooShort ∷ []) (omega (arith, eight)) (omega (arith, nine)))

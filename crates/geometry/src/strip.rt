@@ -1,0 +1,7 @@
+// A strip as a caller hands it over: its mark lists, which need not have one length, nor values in range.
+#[derive(Clone, Copy)]
+pub struct Strip<'a> {
+    pub places: &'a [i16],
+    pub lengths: &'a [u8],
+    pub weights: &'a [u16],
+}
