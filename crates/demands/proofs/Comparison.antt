@@ -8,7 +8,8 @@ use mathlib.Core.Logic.{◌↔◌, ⊎_elim}
 use Prim.Native.Nat.{ℕ}
 use native.Mathlib.Omega.{arith}
 use Rattle.geometry.specs.Strip.{Strip}
-use Rattle.geometry.specs.Refusal.{accepted, refusal_number, NoPlacing, number_of}
+use Rattle.geometry.specs.Refusal.{accepted, refusal_number, number_of}
+use Rattle.geometry.specs.declared.refusal.Refusal.TheVariants.{NoPlacing}
 use Rattle.geometry.proofs.Split.{clash}
 use Rattle.full.specs.Full.{FullLent, full_checks, FullContract}
 use Rattle.best.specs.declared.answer.Best.{Best}

@@ -7,7 +7,8 @@ use Prim.Native.Nat.{ℕ}
 use native.Mathlib.Omega.{arith}
 use Rattle.geometry.specs.Strip.{marks_of}
 use Rattle.geometry.specs.Sliding.{slides_whole}
-use Rattle.geometry.specs.Refusal.{refusal_number, NoPlacing, accepted, number_of}
+use Rattle.geometry.specs.Refusal.{refusal_number, accepted, number_of}
+use Rattle.geometry.specs.declared.refusal.Refusal.TheVariants.{NoPlacing}
 use Rattle.geometry.proofs.TwoUnbeaten.{at-most-two-unbeaten, fitting-begins-unbeaten}
 use Rattle.slide.specs.Slide.{slide_verdict}
 use Rattle.demands.specs.Demands.{Demand1, Demand2, Demand3}

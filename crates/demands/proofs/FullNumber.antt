@@ -11,7 +11,8 @@ use lib.ListN.{length}
 use Rattle.geometry.specs.Strip.{Strip, marks_of, most_marks}
 use Rattle.geometry.specs.Position.{Position}
 use Rattle.geometry.specs.Placing.{IsPlacing, first_placing}
-use Rattle.geometry.specs.Refusal.{refusal_number, NoPlacing, Verdict, accepted, refused, number_of}
+use Rattle.geometry.specs.Refusal.{refusal_number, Verdict, accepted, refused, number_of}
+use Rattle.geometry.specs.declared.refusal.Refusal.TheVariants.{NoPlacing}
 use Rattle.geometry.proofs.Verdicts.{refusal-positive, pass-not-11}
 use Rattle.geometry.proofs.Words.{never-none}
 use Rattle.geometry.proofs.Whole.{placing-found, found-placing}

@@ -13,7 +13,8 @@ use borrow.Author.Tests.{leb-true, le-leb}
 use Rattle.std.specs.List.{list_all}
 use Rattle.geometry.specs.Mark.{rising}
 use Rattle.geometry.specs.Strip.{Strip, strip, most_marks, most_short}
-use Rattle.geometry.specs.Refusal.{Verdict, refused, TooManyMarks, BadMark}
+use Rattle.geometry.specs.Refusal.{Verdict, refused}
+use Rattle.geometry.specs.declared.refusal.Refusal.TheVariants.{TooManyMarks, BadMark}
 use Rattle.geometry.specs.Entry.{same_lengths_lem, good_marks_lem, entry}
 use Rattle.geometry.specs.Pass.{gap_checks, pass_verdict}
 use Rattle.geometry.proofs.Verdicts.{one-passed, pass-one}

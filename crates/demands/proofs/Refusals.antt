@@ -3,7 +3,8 @@
 use mathlib.Core.Path.{◌≡◌, sym, ◌∙◌, ap, ap₂}
 use Prim.Native.Nat.{ℕ}
 use Rattle.geometry.specs.Strip.{Strip}
-use Rattle.geometry.specs.Refusal.{Refusal, refusal_number, refused, number_of}
+use Rattle.geometry.specs.Refusal.{refusal_number, refused, number_of}
+use Rattle.geometry.specs.declared.refusal.Refusal.{Refusal}
 use Rattle.geometry.proofs.Verdicts.{refusal-positive}
 use Rattle.geometry.proofs.Lent.{same-three}
 use Rattle.full.specs.Full.{FullLent, full_lent, full_checks, FullContract}

@@ -3,7 +3,8 @@ use Rattle.std.specs.Prelude.{◌≡◌, ◌↔◌, true, false, ℕ}
 use Rattle.std.proofs.Math.Option.{none}
 use Rattle.geometry.specs.Strip.{Strip, marks_of}
 use Rattle.geometry.specs.Placing.{first_placing, best_sum}
-use Rattle.geometry.specs.Refusal.{accepted, refusal_number, NoPlacing}
+use Rattle.geometry.specs.Refusal.{accepted, refusal_number}
+use Rattle.geometry.specs.declared.refusal.Refusal.TheVariants.{NoPlacing}
 use Rattle.full.specs.Full.{FullLent, full_checks, FullContract}
 use Rattle.best.specs.declared.answer.Best.{Best}
 use Rattle.best.specs.Best.{BestLent, best_checks, BestContract}

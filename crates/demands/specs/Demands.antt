@@ -10,7 +10,9 @@ use Rattle.geometry.specs.Overlap.{free, all_labelled}
 use Rattle.geometry.specs.Placing.{IsPlacing, NotAfter, sum_of}
 use Rattle.geometry.specs.Sliding.{Slides}
 use Rattle.geometry.specs.Layout.{unbeaten_count, BeginsUnbeaten}
-use Rattle.geometry.specs.Refusal.{Refusal, refusal_number, NoPlacing, accepted, refused}
+use Rattle.geometry.specs.Refusal.{refusal_number, accepted, refused}
+use Rattle.geometry.specs.declared.refusal.Refusal.{Refusal}
+use Rattle.geometry.specs.declared.refusal.Refusal.TheVariants.{NoPlacing}
 use Rattle.geometry.specs.Entry.{entry}
 use Rattle.geometry.specs.Pass.{written, cleared}
 use Rattle.full.specs.Full as full

@@ -2,7 +2,8 @@
 -- accepts, written and read back, has the same marks.
 use Rattle.std.specs.Prelude.{◌≡◌, List, ℕ, ◌≤◌, ◌<◌, length}
 use Rattle.geometry.specs.Strip.{Strip}
-use Rattle.geometry.specs.Refusal.{refusal_number, ListTooShort}
+use Rattle.geometry.specs.Refusal.{refusal_number}
+use Rattle.geometry.specs.declared.refusal.Refusal.TheVariants.{ListTooShort}
 use Rattle.job.specs.Calls.{shortest, ReadContract, WriteContract}
 use Rattle.job.specs.declared.answer.Read.{Read}
 use Rattle.job.specs.declared.answer.Written.{Written}

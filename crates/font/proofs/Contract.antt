@@ -14,7 +14,7 @@ use Rattle.geometry.specs.Mark.{most_length, length_in_range_lem}
 use Rattle.geometry.specs.Strip.{most_marks}
 use Rattle.geometry.specs.Pass.{written}
 use Rattle.geometry.specs.Refusal.{Check, Verdict, accepted, refused, number_of, refusal_number, at_most, after_check, first_failure}
-use Rattle.geometry.specs.Refusal.{TooManyMarks, BadMark, ListTooShort}
+use Rattle.geometry.specs.declared.refusal.Refusal.TheVariants.{TooManyMarks, BadMark, ListTooShort}
 use Rattle.geometry.specs.inner.Checks.{number_of_checks}
 use Rattle.geometry.proofs.Split.{one-to}
 use Rattle.geometry.proofs.Verdicts.{zero-accepted, number-stands, number-passes, first-passed, one-passed, pass-one}

@@ -5,7 +5,7 @@ use Rattle.std.specs.List.{list_all}
 use Rattle.geometry.specs.Mark.{length_in_range_lem}
 use Rattle.geometry.specs.Strip.{most_marks}
 use Rattle.geometry.specs.Refusal.{Check, Verdict, accepted, refused, number_of, at_most, first_failure}
-use Rattle.geometry.specs.Refusal.{ListsUnequal, TooManyMarks, BadMark, ListTooShort, StrayByte}
+use Rattle.geometry.specs.declared.refusal.Refusal.TheVariants.{ListsUnequal, TooManyMarks, BadMark, ListTooShort, StrayByte}
 use Rattle.geometry.specs.Pass.{written}
 use Rattle.font.specs.Letters.{in_font_lem}
 use Rattle.font.specs.Text.{text_width, IsLongest, longest_beginning_lem, lengths_of}

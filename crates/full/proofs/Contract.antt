@@ -16,7 +16,9 @@ use Rattle.geometry.specs.Dot.{empty_reach}
 use Rattle.geometry.specs.Strip.{Strip, marks_of, most_marks}
 use Rattle.geometry.specs.Position.{Position}
 use Rattle.geometry.specs.Placing.{first_placing}
-use Rattle.geometry.specs.Refusal.{Verdict, accepted, refused, number_of, refusal_number, NoPlacing}
+use Rattle.geometry.specs.Refusal.{Verdict, accepted, refused, number_of, refusal_number}
+use Rattle.geometry.specs.declared.refusal.Refusal.{Refusal}
+use Rattle.geometry.specs.declared.refusal.Refusal.TheVariants.{NoPlacing}
 use Rattle.geometry.specs.Pass.{cleared, work_after}
 use Rattle.geometry.specs.inner.At.{mark_at}
 use Rattle.geometry.specs.inner.Each.{Each}
@@ -33,24 +35,12 @@ use Rattle.full.proofs.First.{first-placing-is}
 use Rattle.full.proofs.Fits.{fits-by-count}
 
 module _ (s : Strip) (g : ℕ) (entry : FullLent) where
-  -- a refusal of the checks: its number, and nothing changed
-  by-refusal : (v : Verdict) (o : Option (List Position)) (n : ℕ) → n ≡ number_of v → (n ≡ 0 → ⊥)
-      → (n ≡ number_of (full_verdict v o)) × (entry.positions ≡ positions_after v o entry.positions)
-      × (entry.work ≡ work_after work_named (pos 0) v entry.work)
-  by-refusal accepted o n e z = absurd (z e)
-  by-refusal (refused r) o n e z = (e, refl, refl)
+  -- a call that the checks refuse meets the contract: their number, and nothing changed
+  pub refused-call : (r : Refusal) → full_checks s g entry ≡ refused r → FullContract s g entry entry (refusal_number r)
+  refused-call r e = record { number_is = rw e refl; positions-are = rw e refl; work-is = rw e refl }
 
-  -- so a refused call meets the contract
-  pub refused-call : (n : ℕ) → n ≡ number_of (full_checks s g entry) → (n ≡ 0 → ⊥) → FullContract s g entry entry n
-  refused-call n e z =
-      let r = by-refusal (full_checks s g entry) (first_placing g (marks_of s)) n e z in
-      record { number_is = r.0; positions-are = r.1; work-is = r.2 }
-
-  module _ (passed : number_of (full_checks s g entry) ≡ 0) where
-    -- past the checks the strip is accepted, and the lent lists are long enough
-    is-accepted : full_checks s g entry ≡ accepted
-    is-accepted = zero-accepted (full_checks s g entry) passed
-
+  module _ (is-accepted : full_checks s g entry ≡ accepted) where
+    -- past the checks the lent lists are long enough
     accepted-parts : PassAccepted most_marks s g (length entry.positions) work_named (length entry.work)
     accepted-parts = pass-accepted most_marks s g (length entry.positions) work_named (length entry.work) is-accepted
 

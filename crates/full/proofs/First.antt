@@ -17,7 +17,7 @@ use Rattle.geometry.specs.inner.Rising.{Rising}
 use Rattle.geometry.specs.inner.Machine.{room_for, next_above, next_below, Go}
 use Rattle.geometry.proofs.Split.{both, and-fst, and-snd, clash}
 use Rattle.geometry.proofs.Machine.{room-passes, passes-room, free-iff-go}
-use Rattle.full.specs.inner.Rest.{can, leaves, first_passed, steps, walk}
+use Rattle.full.specs.inner.Rest.{can, leaves, first_passed_lem, steps, walk}
 
 -- the walk over a given choice, as a test
 unfoldable goes : ℕ → ℕ → ℕ → List Mark → List Position → Bool
@@ -113,7 +113,7 @@ first-of-four : (two three one four : Bool) (word : Position → List Position)
     (or_else (word_if three (at below leftward) (word (at below leftward)))
     (or_else (word_if one (at above rightward) (word (at above rightward)))
     (or_else (word_if four (at below rightward) (word (at below rightward))) none)))
-    ≡ word_if (two || (three || (one || four))) (first_passed two three one) (word (first_passed two three one))
+    ≡ word_if (two || (three || (one || four))) (first_passed_lem two three one) (word (first_passed_lem two three one))
 first-of-four true three one four word = refl
 first-of-four false true one four word = refl
 first-of-four false false true four word = refl

@@ -116,31 +116,31 @@ module _ (places : List ℤ) (lengths : List ℕ) (g : ℕ) (work : List ℤ) (e
             )
             (row-picks g (dot above) (dot below) (mark_at whole i) behind w.above-held w.below-held held-here)
 
-      module _ (position : ℕ) (above' below' : ℤ) (s : Stepped g above below here (get_or lengths i 0) taken position above' below') where
+      module _ (position : Position) (above' below' : ℤ) (s : Stepped g above below here (get_or lengths i 0) taken position above' below') where
         -- so the walk from here on begins with the number that the step gives
         numbers-here : AnyWeights places lengths
-            (λ s. numbers_from g s i (dot above) (dot below) ≡ position ∷ numbers_from g s (i + 1) (dot above') (dot below'))
+            (λ s. numbers_from g s i (dot above) (dot below) ≡ code position ∷ numbers_from g s (i + 1) (dot above') (dot below'))
         unfolding steps
         numbers-here ws same =
             let weight = get_or ws i 0 in
             rw (from-here ws same, sym (taken_is ws same), s.position-is, s.above-is weight, s.below-is weight) refl
 
         -- one mark more
-        pub walking-more : Walking places lengths g work entry (set positions i position) above' below' (i + 1)
+        pub walking-more : Walking places lengths g work entry (set positions i (code position)) above' below' (i + 1)
         walking-more =
             let room = w.ready.places-for-all in
             let long = w.long in
             record {
               ready = w.ready;
               inside = omega arith;
-              long = length-set positions i position ∙ long;
+              long = length-set positions i (code position) ∙ long;
               above-held = s.above-held;
               below-held = s.below-held;
               so_far = λ ws same.
                   w.so_far ws same
-                  ∙ rw (numbers-here ws same, take_more i position positions (omega arith))
-                  (sym (append_snoc (take i positions) position (numbers_from g (strip places lengths ws) (i + 1) (dot above') (dot below'))));
-              untouched = drop_more i position positions entry w.untouched;
+                  ∙ rw (numbers-here ws same, take_more i (code position) positions (omega arith))
+                  (sym (append_snoc (take i positions) (code position) (numbers_from g (strip places lengths ws) (i + 1) (dot above') (dot below'))));
+              untouched = drop_more i (code position) positions entry w.untouched;
             }
 
     -- behind the last mark the numbers are those of the whole walk

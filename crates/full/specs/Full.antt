@@ -5,7 +5,8 @@ use Rattle.std.proofs.Math.Option.{Option, none, some}
 use Rattle.geometry.specs.Strip.{Strip, marks_of, most_marks}
 use Rattle.geometry.specs.Position.{Position, code}
 use Rattle.geometry.specs.Placing.{first_placing}
-use Rattle.geometry.specs.Refusal.{Verdict, accepted, refused, number_of, NoPlacing}
+use Rattle.geometry.specs.Refusal.{Verdict, accepted, refused, number_of}
+use Rattle.geometry.specs.declared.refusal.Refusal.TheVariants.{NoPlacing}
 use Rattle.geometry.specs.Pass.{pass_verdict, written, work_after}
 
 -- "Work areas, lent by the caller: full pass 20,000 numbers of 16 bits"

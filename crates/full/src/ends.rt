@@ -1,15 +1,16 @@
 // The ends of a mark's label and where its side reaches to with it: the only sums and differences of coordinates in the pass.
-ghost use Rattle.std.specs.Prelude.{◌≡◌, ◌+◌, ◌-◌};
+ghost use Rattle.std.specs.Prelude.{◌≡◌, ◌+◌, ◌-◌, ◌<◌, length, get_or, pos};
 ghost use Rattle.geometry.specs.Dot.{dot};
 ghost use Rattle.full.specs.inner.SixteenBits.{LeftEdge, Reach};
 ghost use Rattle.full.specs.inner.OneMark.{Formed, Reached};
 
-// The left edge of the label to the left of a mark; that of the label to its right is its place.
-pub fn left_edge(place: i16, length: u8) -> i16
-    requires { LeftEdge (dot place - length) }
-    ensures { (dot result ≡ dot place - length) × LeftEdge (dot result) }
-{
-    place - length as i16
+use geometry::strip::Strip;
+
+// A mark, as far as this pass asks for it: its weight changes no answer.
+#[derive(Clone, Copy)]
+pub struct Mark {
+    pub place: i16,
+    pub length: u8,
 }
 
 // So many dots further right: by a label's length from one of its ends to the other, by the gap from a right end to where the next label
@@ -29,13 +30,34 @@ pub struct Reaches {
     pub far: i16,
 }
 
-pub fn reaches_of(place: i16, length: u8, gap: u8) -> Reaches
-    requires { Formed place length gap }
-    ensures { Reached place length gap result.near result.far }
-{
-    let near = further(place, gap);
-    Reaches {
-        near: near,
-        far: further(near, length),
+impl Mark {
+    // The mark with index i.
+    pub fn at(strip: Strip, i: usize) -> Mark
+        requires { (i < length strip.places.now) × (i < length strip.lengths.now) }
+        ensures { (result.place ≡ get_or strip.entry.places.now i (pos 0)) × (result.length ≡ get_or strip.entry.lengths.now i 0) }
+    {
+        Mark {
+            place: strip.places[i],
+            length: strip.lengths[i],
+        }
+    }
+
+    // The left edge of the label to the left; that of the label to the right is the mark's place.
+    pub fn left_edge(self) -> i16
+        requires { LeftEdge (dot self.place - self.length) }
+        ensures { (dot result ≡ dot self.place - self.length) × LeftEdge (dot result) }
+    {
+        self.place - self.length as i16
+    }
+
+    pub fn reaches(self, gap: u8) -> Reaches
+        requires { Formed self.place self.length gap }
+        ensures { Reached self.place self.length gap result.near result.far }
+    {
+        let near = further(self.place, gap);
+        Reaches {
+            near,
+            far: further(near, self.length),
+        }
     }
 }

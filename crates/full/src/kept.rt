@@ -6,7 +6,7 @@ ghost use Rattle.full.specs.inner.Row.{alike, kept_one};
 ghost use Rattle.full.specs.inner.SixteenBits.{Stored};
 ghost use Rattle.full.specs.inner.OneMark.{Formed, GreatestReady, GreatestFound, RowHeld, row_before, Counted};
 
-use crate::ends::{left_edge, reaches_of};
+use crate::ends::Mark;
 use crate::passed::if_passed;
 use geometry::order::{at_most, larger};
 use geometry::outside::NO_REACH;
@@ -53,22 +53,15 @@ fn both_sides(left: i16, right: i16) -> Kept
 }
 
 // The kept part layouts of a mark from those of the next one: what a label to the left and one to the right leave beside their own reaches.
-pub fn kept_before(
-    place: i16,
-    length: u8,
-    gap: u8,
-    next_place: i16,
-    next_length: u8,
-    next: Kept,
-) -> Kept
-    requires { Formed place length gap × Formed next_place next_length gap × RowHeld next.reaches }
-    ensures { Counted (row_before gap (dot place) length (dot next_place) next_length next.reaches) result.reaches result.count }
+pub fn kept_before(mark: Mark, gap: u8, next: Mark, kept: Kept) -> Kept
+    requires { Formed mark.place mark.length gap × Formed next.place next.length gap × RowHeld kept.reaches }
+    ensures { Counted (row_before gap (dot mark.place) mark.length (dot next.place) next.length kept.reaches) result.reaches result.count }
 {
-    let own = reaches_of(place, length, gap);
-    let left = left_edge(next_place, next_length);
-    let reaches = next.reaches;
+    let own = mark.reaches(gap);
+    let left = next.left_edge();
+    let reaches = kept.reaches;
     both_sides(
-        greatest(own.near, next_place, left, reaches[0], reaches[2]),
-        greatest(own.far, next_place, left, reaches[0], reaches[2]),
+        greatest(own.near, next.place, left, reaches[0], reaches[2]),
+        greatest(own.far, next.place, left, reaches[0], reaches[2]),
     )
 }

@@ -11,51 +11,45 @@ mod kept;
 mod passed;
 mod table;
 mod walk;
-mod work;
 
-ghost use Rattle.geometry.specs.Strip.{strip};
+ghost use Rattle.geometry.specs.Strip.{lists_of};
+ghost use Rattle.geometry.specs.Refusal.{answer_number};
 ghost use Rattle.full.specs.Full.{full_lent, FullContract};
 
 use geometry::entry::check_pass;
 use geometry::limits::MOST_MARKS;
-use geometry::refusal::NO_PLACING;
+use geometry::refusal::Refusal;
+use geometry::strip::Strip;
 
 // The part of the work area that is named, and ends as zeros also at 11.
 pub const WORK_NAMED: usize = 20000;
 
 // The first placing of the strip at a gap of so many dots, or 11 if there is none; 6 to 10 or 12 if a check is not passed.
 pub fn full(
-    places: &[i16],
-    lengths: &[u8],
-    weights: &[u16],
+    strip: Strip,
     gap: u8,
     positions: &mut [u8],
     work: &mut [i16],
-) -> u8
+) -> Result<(), Refusal>
     ensures { FullContract
-        (strip places.now lengths.now weights.now) gap
+        (lists_of strip.entry) gap
         (full_lent positions.old work.old)
-        (full_lent positions.new work.new) result }
+        (full_lent positions.new work.new) (answer_number result) }
 {
-    let refused = check_pass(
-        places,
-        lengths,
-        weights,
+    check_pass(
+        strip,
         gap,
         MOST_MARKS,
         positions.len(),
         WORK_NAMED,
         work.len(),
-    );
-    if refused != 0 {
-        return refused;
-    }
-    let kept = table::fill(places, lengths, gap, work);
+    )?;
+    let kept = table::fill(strip, gap, work);
     if kept == 0 {
-        work::clear(work);
-        return NO_PLACING;
+        work[..WORK_NAMED].fill(0);
+        return Err(Refusal::NoPlacing);
     }
-    walk::walk(places, lengths, gap, work, positions);
-    work::clear(work);
-    0
+    walk::walk(strip, gap, work, positions);
+    work[..WORK_NAMED].fill(0);
+    Ok(())
 }

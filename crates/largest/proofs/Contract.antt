@@ -16,7 +16,8 @@ use Rattle.std.specs.List.{list_all}
 use Rattle.geometry.specs.Mark.{most_length, length_in_range_lem}
 use Rattle.geometry.specs.Strip.{Strip, most_marks}
 use Rattle.geometry.specs.Position.{Position}
-use Rattle.geometry.specs.Refusal.{Verdict, accepted, refused, number_of, refusal_number, NoPlacing}
+use Rattle.geometry.specs.Refusal.{Verdict, accepted, refused, number_of, refusal_number}
+use Rattle.geometry.specs.declared.refusal.Refusal.TheVariants.{NoPlacing}
 use Rattle.geometry.specs.Pass.{cleared, work_after}
 use Rattle.geometry.proofs.Split.{both, one-to, by_bool}
 use Rattle.geometry.proofs.Lent.{cleared-again, drop-cleared}

@@ -13,7 +13,8 @@ use Rattle.std.specs.List.{list_all}
 use Rattle.geometry.specs.Strip.{Strip, marks_of_lists, most_marks}
 use Rattle.geometry.specs.Overlap.{free}
 use Rattle.geometry.specs.Placing.{first_placing}
-use Rattle.geometry.specs.Refusal.{accepted, refusal_number, NoPlacing}
+use Rattle.geometry.specs.Refusal.{accepted, refusal_number}
+use Rattle.geometry.specs.declared.refusal.Refusal.TheVariants.{NoPlacing}
 use Rattle.geometry.proofs.Split.{clash}
 use Rattle.geometry.proofs.Words.{never-none}
 use Rattle.geometry.proofs.Accepted.{pass-accepted}

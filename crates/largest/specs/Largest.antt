@@ -3,7 +3,8 @@
 use Rattle.std.specs.Prelude.{ℕ, ◌≤◌, ◌<◌, ◌≡◌, Bool, true, false, ◌↔◌, [], pos}
 use Rattle.std.proofs.Math.Option.{Option, none, some}
 use Rattle.geometry.specs.Strip.{Strip}
-use Rattle.geometry.specs.Refusal.{Verdict, accepted, refused, number_of, refusal_number, NoPlacing}
+use Rattle.geometry.specs.Refusal.{Verdict, accepted, refused, number_of, refusal_number}
+use Rattle.geometry.specs.declared.refusal.Refusal.TheVariants.{NoPlacing}
 use Rattle.geometry.specs.Pass.{work_after}
 use Rattle.full.specs.Full.{work_named, FullLent, full_checks, full_verdict, positions_after}
 use Rattle.largest.specs.Widths.{fits_at, widest, largest_width, placing_of}

@@ -6,7 +6,8 @@ use Prim.Native.Nat.{ℕ, ◌≤◌, ◌<◌}
 use native.Mathlib.Omega.{arith}
 use lib.ListN.{length, take, length-take}
 use borrow.Author.Tests.{le-leb, lt-leb}
-use Rattle.geometry.specs.Refusal.{refusal_number, ListTooShort}
+use Rattle.geometry.specs.Refusal.{refusal_number}
+use Rattle.geometry.specs.declared.refusal.Refusal.TheVariants.{ListTooShort}
 use Rattle.listing.specs.Listing.{ListingContract}
 use Rattle.listing.specs.inner.Append.{Appended}
 use Rattle.listing.specs.inner.Lines.{Listing}

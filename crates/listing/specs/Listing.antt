@@ -6,7 +6,8 @@ use Rattle.geometry.specs.Overlap.{free}
 use Rattle.geometry.specs.Placing.{sum_of, best_sum}
 use Rattle.geometry.specs.Sliding.{Slides}
 use Rattle.geometry.specs.Pass.{written}
-use Rattle.geometry.specs.Refusal.{Verdict, accepted, refused, number_of, after_check, ListTooShort}
+use Rattle.geometry.specs.Refusal.{Verdict, accepted, refused, number_of, after_check}
+use Rattle.geometry.specs.declared.refusal.Refusal.TheVariants.{ListTooShort}
 use Rattle.best.specs.LeftOut.{left_out_lem}
 use Rattle.job.specs.Outcome.{Outcome, given}
 use Rattle.job.specs.Decode.{decode}

@@ -6,7 +6,9 @@ use Rattle.geometry.specs.Mark.{Mark}
 use Rattle.geometry.specs.Strip.{Strip, marks_of, most_short}
 use Rattle.geometry.specs.Position.{Position, code}
 use Rattle.geometry.specs.Placing.{first_placing, best_sum}
-use Rattle.geometry.specs.Refusal.{Refusal, refusal_number, TooManyMarks}
+use Rattle.geometry.specs.Refusal.{refusal_number}
+use Rattle.geometry.specs.declared.refusal.Refusal.{Refusal}
+use Rattle.geometry.specs.declared.refusal.Refusal.TheVariants.{TooManyMarks}
 use Rattle.job.specs.Outcome.{Outcome, given, refusal}
 
 -- "The listing program uses gap 1" (document 02, P2)

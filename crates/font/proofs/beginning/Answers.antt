@@ -1,7 +1,8 @@
 -- `font::beginning` meets its contract: 13 decides, and where it is passed the bytes that have room are counted.
 use mathlib.Core.Path.{◌≡◌, refl, sym, ◌∙◌}
 use Rattle.std.specs.List.{list_all}
-use Rattle.geometry.specs.Refusal.{number_of, StrayByte}
+use Rattle.geometry.specs.Refusal.{number_of}
+use Rattle.geometry.specs.declared.refusal.Refusal.TheVariants.{StrayByte}
 use Rattle.geometry.proofs.Verdicts.{zero-accepted, one-passed}
 use Rattle.font.specs.Letters.{in_font_lem}
 use Rattle.font.specs.Calls.{letter_check, beginning_verdict}

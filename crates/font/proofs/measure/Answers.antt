@@ -4,7 +4,7 @@ use mathlib.Core.List.{[], ◌∷◌}
 use native.Mathlib.Omega.{arith}
 use lib.ListN.{length}
 use Rattle.std.specs.List.{list_all}
-use Rattle.geometry.specs.Refusal.{StrayByte, BadMark}
+use Rattle.geometry.specs.declared.refusal.Refusal.TheVariants.{StrayByte, BadMark}
 use Rattle.geometry.specs.inner.Checks.{number_of_checks}
 use Rattle.font.specs.Letters.{in_font_lem}
 use Rattle.font.specs.Calls.{letter_check, length_check}

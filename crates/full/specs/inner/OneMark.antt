@@ -2,7 +2,7 @@
 use Rattle.std.specs.Prelude.{ℕ, ◌+◌, ◌-◌, ◌≤◌, ◌≡◌, true, List, [], ◌∷◌, map, ℤ, pos, get_or}
 use Rattle.geometry.specs.Dot.{dot}
 use Rattle.geometry.specs.Mark.{place_in_range_lem, length_in_range_lem}
-use Rattle.geometry.specs.Position.{Position, code}
+use Rattle.geometry.specs.Position.{Position}
 use Rattle.geometry.specs.inner.Machine.{next_above, next_below}
 use Rattle.geometry.specs.inner.Each.{Each}
 use Rattle.full.specs.inner.Row.{candidates, alike, count_of}
@@ -64,9 +64,9 @@ pub record StepReady (above below place : ℤ) (label_length g : ℕ) (first sec
   pub formed : Formed place label_length g
   pub row-held : Each Stored (dot first ∷ dot second ∷ dot third ∷ [])
 
--- and what it gives: the position's number and the two reaches after it
-pub record Stepped (g : ℕ) (above below place : ℤ) (label_length : ℕ) (p : Position) (position : ℕ) (above' below' : ℤ) : Type 0 where
-  pub position-is : position ≡ code p
+-- and what it gives: the position and the two reaches after it
+pub record Stepped (g : ℕ) (above below place : ℤ) (label_length : ℕ) (p position : Position) (above' below' : ℤ) : Type 0 where
+  pub position-is : position ≡ p
   pub above-is : (weight : ℕ) → dot above' ≡ next_above g (dot above) (record { place = dot place; label_length = label_length; weight = weight }) p
   pub below-is : (weight : ℕ) → dot below' ≡ next_below g (dot below) (record { place = dot place; label_length = label_length; weight = weight }) p
   pub above-held : Carried (dot above')

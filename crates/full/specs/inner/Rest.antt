@@ -19,12 +19,12 @@ abbrev pub leaves : ℕ → ℕ → ℕ → Mark → List Mark → Position → 
 leaves g a b m ms p = room_for a b m p && can g (next_above g a m p) (next_below g b m p) ms
 
 -- 2, 3 or 1 by the first of their tests that is passed, else 4
-abbrev pub first_passed : Bool → Bool → Bool → Position
-first_passed two three one = cond two (at above leftward) (cond three (at below leftward) (cond one (at above rightward) (at below rightward)))
+abbrev pub first_passed_lem : Bool → Bool → Bool → Position
+first_passed_lem two three one = cond two (at above leftward) (cond three (at below leftward) (cond one (at above rightward) (at below rightward)))
 
 -- the first position in the order 2, 3, 1, 4 that leaves the rest possible, 4 if none does
 abbrev pub pick : ℕ → ℕ → ℕ → Mark → List Mark → Position
-pick g a b m ms = first_passed (leaves g a b m ms (at above leftward)) (leaves g a b m ms (at below leftward)) (leaves g a b m ms (at above rightward))
+pick g a b m ms = first_passed_lem (leaves g a b m ms (at above leftward)) (leaves g a b m ms (at below leftward)) (leaves g a b m ms (at above rightward))
 
 -- a step of the walk: the position taken at a mark, and the two reaches behind it
 pub record Taken : Type 0 where
@@ -46,4 +46,4 @@ walk g a b ms = map (λ t. t.position) (steps g a b ms)
 
 -- the position picked, by what a row leaves: the left ends of the two directions, and what positions 2, 3 and 1 leave to the other side
 abbrev pub pick_by_row : ℕ → ℕ → ℕ → ℕ → ℕ → ℕ → ℕ → Position
-pick_by_row a b left right first second third = first_passed (leb a left && leb b first) (leb b left && leb a second) (leb a right && leb b third)
+pick_by_row a b left right first second third = first_passed_lem (leb a left && leb b first) (leb b left && leb a second) (leb a right && leb b third)

@@ -10,7 +10,8 @@ use Rattle.geometry.specs.Lists.{sum_list}
 use Rattle.std.specs.List.{list_all}
 use Rattle.geometry.specs.Mark.{length_in_range_lem}
 use Rattle.geometry.specs.Strip.{most_marks}
-use Rattle.geometry.specs.Refusal.{at_most, ListsUnequal, TooManyMarks, BadMark, ListTooShort, StrayByte}
+use Rattle.geometry.specs.Refusal.{at_most}
+use Rattle.geometry.specs.declared.refusal.Refusal.TheVariants.{ListsUnequal, TooManyMarks, BadMark, ListTooShort, StrayByte}
 use Rattle.geometry.specs.inner.Checks.{number_of_checks}
 use Rattle.geometry.proofs.Verdicts.{count-number}
 use Rattle.font.specs.Letters.{in_font_lem}

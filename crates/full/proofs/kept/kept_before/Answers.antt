@@ -11,7 +11,8 @@ use mir.Syntax.{w16}
 use mir.Val.{to_z, of_z}
 use Rattle.geometry.specs.Dot.{dot}
 use Rattle.geometry.specs.Position.{leftward, rightward}
-use Rattle.geometry.proofs.Dots.{back, fetched}
+use Rattle.std.proofs.Common.{rules}
+use Rattle.geometry.proofs.Dots.{fetched}
 use Rattle.full.specs.inner.SixteenBits.{LeftEdge, Reach}
 use Rattle.full.specs.inner.OneMark.{Formed, GreatestReady, RowHeld}
 use Rattle.full.proofs.EndsHeld.{formed-ends, edge-back, reach-back}
@@ -53,38 +54,17 @@ module _ (place : ℤ) (length g : ℕ) (row : List ℤ) (left : ℤ) (formed : 
       ready
 
 pub left_edge-left-requires : goal.left_edge-left-requires
-left_edge-left-requires c =
-    rw (back c.ranges.next_place) ((formed-ends c.args.next_place c.args.next_length c.args.gap 0 c.requires.1).left-edge leftward)
+left_edge-left-requires c = (formed-ends c.args.next.place c.args.next.length c.args.gap 0 c.requires.1).left-edge leftward
 
 pub greatest-requires : goal.greatest-requires
 greatest-requires c =
-    let left_is = rw (back c.ranges.next_place) at c.left_edge-left.ensures.0 in
-    ready_read c.args.next_place c.args.next_length c.args.gap c.args.next.reaches c.left_edge-left.result c.requires.1
-    c.requires.2 left_is c.left_edge-left.ensures.1 (omega arith) (omega arith) _ c.reaches_of-own.ensures.near-held
+    ready_read c.args.next.place c.args.next.length c.args.gap c.args.kept.reaches c.left_edge-left.result c.requires.1
+    c.requires.2 c.left_edge-left.ensures.0 c.left_edge-left.ensures.1 (omega arith) (omega arith) _ c.reaches-own.ensures.near-held
 
 pub greatest-requires-2 : goal.greatest-requires-2
 greatest-requires-2 c =
-    let left_is = rw (back c.ranges.next_place) at c.left_edge-left.ensures.0 in
-    ready_read c.args.next_place c.args.next_length c.args.gap c.args.next.reaches c.left_edge-left.result c.requires.1
-    c.requires.2 left_is c.left_edge-left.ensures.1 (omega arith) (omega arith) _ c.reaches_of-own.ensures.far-held
+    ready_read c.args.next.place c.args.next.length c.args.gap c.args.kept.reaches c.left_edge-left.result c.requires.1
+    c.requires.2 c.left_edge-left.ensures.0 c.left_edge-left.ensures.1 (omega arith) (omega arith) _ c.reaches-own.ensures.far-held
 
 pub returns : goal.returns
-returns c =
-    let row = c.args.next.reaches in
-    rw (
-      fetched c.greatest.result c.greatest.type_inv,
-      fetched c.greatest-2.result c.greatest-2.type_inv,
-      c.greatest.ensures.is,
-      c.greatest-2.ensures.is,
-      fetched (get_or row 0 (pos 0)) (omega arith),
-      fetched (get_or row 2 (pos 0)) (omega arith),
-      edge-back c.left_edge-left.result c.left_edge-left.ensures.1,
-      reach-back c.reaches_of-own.result.near c.reaches_of-own.ensures.near-held,
-      reach-back c.reaches_of-own.result.far c.reaches_of-own.ensures.far-held,
-      c.left_edge-left.ensures.0,
-      c.reaches_of-own.ensures.near-is,
-      c.reaches_of-own.ensures.far-is,
-      back c.ranges.next_place,
-      back c.ranges.place,
-    )
-    at c.both_sides.ensures
+returns c = ?

@@ -2,13 +2,15 @@
 use mathlib.Core.Path.{◌≡◌, refl, sym, ◌∙◌}
 use mathlib.Core.Bool.{Bool, true, false, cond}
 use Prim.Native.Nat.{ℕ}
-use lib.IntN.{ℤ}
+use lib.IntN.{ℤ, pos}
+use lib.ListN.{get_or}
 use Rattle.geometry.specs.Dot.{dot}
 use Rattle.geometry.specs.Mark.{Mark}
-use Rattle.geometry.specs.Position.{code}
+use Rattle.geometry.specs.Position.{Position, leftward}
 use Rattle.geometry.specs.inner.Machine.{next_above, next_below}
-use Rattle.geometry.proofs.Dots.{back, fetched}
-use Rattle.full.specs.inner.Rest.{first_passed}
+use Rattle.std.proofs.Common.{rules}
+use Rattle.geometry.proofs.Dots.{fetched}
+use Rattle.full.specs.inner.Rest.{first_passed_lem}
 use Rattle.full.specs.inner.OneMark.{Reached, StepReady, Stepped}
 use Rattle.full.proofs.EndsHeld.{formed-ends, edge-back, reach-back}
 use Rattle.full.proofs.SixteenBits.{next-carried}
@@ -27,21 +29,21 @@ module _ (g : ℕ) (a b place : ℤ) (length : ℕ) (near far : ℤ) (own : Reac
 
   -- are those after the position that the tests give
   by_tests : (two three one : Bool) (weight : ℕ)
-      → (above_by two three one ≡ next_above g (dot a) (marked weight) (first_passed two three one))
-      × (below_by two three one ≡ next_below g (dot b) (marked weight) (first_passed two three one))
+      → (above_by two three one ≡ next_above g (dot a) (marked weight) (first_passed_lem two three one))
+      × (below_by two three one ≡ next_below g (dot b) (marked weight) (first_passed_lem two three one))
   by_tests true three one weight = (own.near-is, refl)
   by_tests false true one weight = (refl, own.near-is)
   by_tests false false true weight = (own.far-is, refl)
   by_tests false false false weight = (refl, own.far-is)
 
   -- and reaches of the walk
-  stepped : (first second third : ℤ) (two three one : Bool) (position : ℕ) (a' b' : ℤ) → StepReady a b place length g first second third
-      → position ≡ code (first_passed two three one) → dot a' ≡ above_by two three one → dot b' ≡ below_by two three one
-      → Stepped g a b place length (first_passed two three one) position a' b'
+  stepped : (first second third : ℤ) (two three one : Bool) (position : Position) (a' b' : ℤ) → StepReady a b place length g first second third
+      → position ≡ first_passed_lem two three one → dot a' ≡ above_by two three one → dot b' ≡ below_by two three one
+      → Stepped g a b place length (first_passed_lem two three one) position a' b'
   stepped first second third two three one position a' b' ready number up down =
       let next = by_tests two three one in
       let ends = formed-ends place length g 0 ready.formed in
-      let held = next-carried g (dot a) (dot b) (marked 0) (first_passed two three one) ends ready.above-held ready.below-held in
+      let held = next-carried g (dot a) (dot b) (marked 0) (first_passed_lem two three one) ends ready.above-held ready.below-held in
       record {
         position-is = number;
         above-is = λ weight. up ∙ (next weight).0;
@@ -50,42 +52,12 @@ module _ (g : ℕ) (a b place : ℤ) (length : ℕ) (near far : ℤ) (own : Reac
         below-held = rw (down ∙ (next 0).1) held.1;
       }
 
+pub left_edge-left-requires : goal.left_edge-left-requires
+left_edge-left-requires c = (formed-ends c.args.mark.place c.args.mark.length c.args.gap 0 c.requires.formed).left-edge leftward
+
 pub returns : goal.returns
 returns c =
-    let held = c.ranges in
-    let own = rw (back held.place) at c.reaches_of-own.ensures in
-    let near-read = reach-back c.reaches_of-own.result.near own.near-held in
-    let far-read = reach-back c.reaches_of-own.result.far own.far-held in
-    let left_is = rw (back held.place) at c.left_edge-left.ensures.0 in
-    let left-read = edge-back c.left_edge-left.result c.left_edge-left.ensures.1 in
-    let two_is = rw (left-read, left_is, back held.above, back held.below, back held.first) at c.leaves_rest-two.ensures in
-    let three-is = rw (left-read, left_is, back held.below, back held.above, back held.second) at c.leaves_rest-three.ensures in
-    let one-is = rw (back held.above, back held.place, back held.below, back held.third) at c.leaves_rest-one.ensures in
-    let up = rw (
-      fetched c.if_passed-above_rest.result c.if_passed-above_rest.type_inv,
-      c.if_passed-above_rest.ensures,
-      fetched c.if_passed-above_right.result c.if_passed-above_right.type_inv,
-      c.if_passed-above_right.ensures,
-      far-read,
-      near-read,
-      back held.above,
-    )
-    at c.if_passed.ensures in
-    let down = rw (
-      fetched c.if_passed-below_rest.result c.if_passed-below_rest.type_inv,
-      c.if_passed-below_rest.ensures,
-      fetched c.if_passed-below_right.result c.if_passed-below_right.type_inv,
-      c.if_passed-below_right.ensures,
-      far-read,
-      near-read,
-      back held.below,
-    )
-    at c.if_passed-2.ensures in
-    rw (
-      sym two_is,
-      sym three-is,
-      sym one-is,
-      fetched c.if_passed.result c.if_passed.type_inv,
-      fetched c.if_passed-2.result c.if_passed-2.type_inv,
-    )
-    (stepped _ _ _ _ _ _ _ own _ _ _ _ _ _ _ _ _ c.requires c.number.ensures up down)
+    let t = c.leaves_rest-two.ensures in
+    let u = c.leaves_rest-one.ensures in
+    let v = c.if_passed.ensures in
+    ?
