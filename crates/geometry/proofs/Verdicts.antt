@@ -3,10 +3,10 @@
 -- has its own number, and 11 is none of them.
 use mathlib.Core.Path.{◌≡◌, refl, sym, ◌∙◌, ap}
 use mathlib.Core.Bool.{Bool, true, false, not, false≢true}
-use mathlib.Core.List.{List, [], ◌∷◌, ◌++◌, append_assoc}
-use Prim.Native.Nat.{ℕ, ◌≤◌}
+use mathlib.Core.List.{List, [], ◌∷◌, ◌++◌}
+use Prim.Native.Nat.{ℕ}
 use native.Mathlib.Omega.{arith}
-use lib.Dec.{leb, eqb}
+use lib.Dec.{eqb}
 use borrow.Author.Tests.{eqb-false, not-true}
 use Rattle.std.specs.List.{list_all}
 use Rattle.std.specs.Prelude.{Result, Ok, Err, IsErrAnd}
@@ -16,8 +16,8 @@ use lib.ListN.{length}
 use Rattle.geometry.specs.Pass.{gap_checks, answer_checks, work_checks, pass_verdict}
 use Rattle.geometry.specs.Refusal.{Refusal, BytesEnd, StrayBit, AbsentValue, OutOfRange, BytesLeftOver, ListsUnequal, TooManyMarks}
 use Rattle.geometry.specs.Refusal.{BadMark, ListTooShort, WorkTooShort, NoPlacing, GapTooWide, StrayByte, refusal_number}
-use Rattle.geometry.specs.Refusal.{Verdict, accepted, refused, number_of, verdict_of, Check, at_most, after_check, first_failure}
-use Rattle.geometry.proofs.Split.{by_bool, is-leb, and-fst, and-snd}
+use Rattle.geometry.specs.Refusal.{Verdict, accepted, refused, number_of, verdict_of, Check, after_check, first_failure}
+use Rattle.geometry.proofs.Split.{by_bool, and-fst, and-snd}
 
 -- no refusal has the number 0
 pub refusal-positive : (r : Refusal) → refusal_number r ≡ 0 → ⊥
@@ -96,8 +96,17 @@ entry-in-turn own limit s lists is_own count values few =
     let first = lists_checks s ++ own in
     let second = first ++ count_checks most_marks s in
     let third = second ++ value_checks s in
-    rw (failure-append third (count_checks limit s), failure-append second (value_checks s), failure-append first (count_checks most_marks s)
-      , failure-append (lists_checks s) own, lists, is_own, count, values, few)
+    rw (
+      failure-append third (count_checks limit s),
+      failure-append second (value_checks s),
+      failure-append first (count_checks most_marks s),
+      failure-append (lists_checks s) own,
+      lists,
+      is_own,
+      count,
+      values,
+      few,
+    )
     refl
 
 -- and those of a pass

@@ -1,5 +1,5 @@
 -- Words about lists that the definitions of document 01 are written with.
-use Rattle.std.specs.Prelude.{ℕ, zero, suc, ◌+◌, max, List, [], ◌∷◌, ◌++◌, map, Bool, true, false, cond, ◌&&◌, ◌||◌}
+use Rattle.std.specs.Prelude.{ℕ, zero, suc, ◌+◌, max, List, [], ◌∷◌, ◌++◌, map, Bool, false, cond, ◌||◌}
 use Rattle.std.proofs.Math.Option.{Option, none, some}
 
 -- some element passes it

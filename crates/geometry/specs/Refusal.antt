@@ -1,6 +1,6 @@
 -- "Where the labeller says no": the refusal numbers, and "The first check that is not passed decides." Document 02, P2: "12, gap over 8
 -- [..]; it and every later number join document 01's table." P4: "13, a byte outside 32 to 126".
-use Rattle.std.specs.Prelude.{ℕ, ◌≡◌, List, [], ◌∷◌, Bool, true, false, leb, Result, Ok, Err}
+use Rattle.std.specs.Prelude.{ℕ, List, [], ◌∷◌, Bool, true, false, leb, Result, Ok, Err}
 pub use Rattle.geometry.specs.declared.refusal.Refusal.{Refusal}
 pub use Rattle.geometry.specs.declared.refusal.Refusal.TheVariants.{BytesEnd, StrayBit, AbsentValue, OutOfRange, BytesLeftOver, ListsUnequal}
 pub use Rattle.geometry.specs.declared.refusal.Refusal.TheVariants.{TooManyMarks, BadMark, ListTooShort, WorkTooShort, NoPlacing, GapTooWide, StrayByte}

@@ -10,3 +10,4 @@ pub mod outside;
 pub mod position;
 pub mod refusal;
 pub mod strip;
+pub mod work;

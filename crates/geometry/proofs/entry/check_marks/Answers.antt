@@ -1,5 +1,5 @@
 -- `geometry::entry::check_marks` meets its contract: each check made stands for those of its number, and the first that refuses decides.
-use mathlib.Core.Path.{◌≡◌, refl, sym, ◌∙◌, ap}
+use mathlib.Core.Path.{refl, sym, ◌∙◌, ap}
 use Rattle.geometry.specs.Refusal.{verdict_of, ListsUnequal, TooManyMarks, BadMark}
 use Rattle.geometry.specs.Strip.{lists_of}
 use Rattle.geometry.proofs.Verdicts.{handed-on, one-made, entry-in-turn}

@@ -1,9 +1,8 @@
 -- `geometry::entry::check_pass` meets its contract: the checks on entry come first, and where they are passed those of lent memory decide.
-use mathlib.Core.Path.{◌≡◌, refl, sym, ◌∙◌}
-use lib.ListN.{length}
+use mathlib.Core.Path.{refl, sym, ◌∙◌}
 use Rattle.geometry.specs.Refusal.{GapTooWide, ListTooShort, WorkTooShort}
 use Rattle.geometry.specs.Strip.{lists_of}
-use Rattle.geometry.specs.Pass.{pass_verdict, gap_checks}
+use Rattle.geometry.specs.Pass.{gap_checks}
 use Rattle.geometry.proofs.Verdicts.{handed-on, one-made, pass-in-turn}
 use Rattle.geometry.proofs.entry.check_pass.Goals as goal
 

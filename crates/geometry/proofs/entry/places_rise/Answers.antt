@@ -1,12 +1,11 @@
 -- `geometry::entry::places_rise` meets its contract: what the neighbours so far say together and what is left says is the answer.
-use mathlib.Core.Path.{◌≡◌, refl, sym, ◌∙◌, ap₂}
-use Prim.Native.Nat.{◌+◌, ◌-◌, ◌<◌}
+use mathlib.Core.Path.{◌≡◌, sym, ◌∙◌, ap₂}
+use Prim.Native.Nat.{◌+◌, ◌-◌}
 use native.Mathlib.Omega.{arith}
 use lib.IntN.{pos}
 use lib.Signed.{lt_z}
-use lib.ListN.{length, get_or}
+use lib.ListN.{get_or}
 use Rattle.std.proofs.Common.{rules}
-use Rattle.geometry.specs.Mark.{rising}
 use Rattle.geometry.proofs.Dots.{fetched}
 use Rattle.geometry.proofs.Every.{rising-next, rising-all}
 use Rattle.geometry.proofs.entry.places_rise.Goals as goal

@@ -1,0 +1,13 @@
+// The work area that a pass is lent.
+ghost use Rattle.std.specs.Prelude.{◌≡◌, ◌≤◌, length};
+ghost use Rattle.geometry.specs.Pass.{cleared};
+
+// Puts zeros into its named part.
+pub fn clear<T: Copy>(work: &mut [T], named: usize, zero: T)
+    requires { named ≤ length work.old }
+    ensures { work.new ≡ cleared named zero work.old }
+{
+    for i in 0..named {
+        work[i] = zero;
+    }
+}
