@@ -16,15 +16,14 @@ use Rattle.geometry.specs.Dot.{empty_reach}
 use Rattle.geometry.specs.Strip.{Strip, marks_of, most_marks}
 use Rattle.geometry.specs.Position.{Position}
 use Rattle.geometry.specs.Placing.{first_placing}
-use Rattle.geometry.specs.Refusal.{Verdict, accepted, refused, number_of, refusal_number}
+use Rattle.geometry.specs.Refusal.{accepted, refused, number_of, refusal_number}
 use Rattle.geometry.specs.declared.refusal.Refusal.{Refusal}
 use Rattle.geometry.specs.declared.refusal.Refusal.TheVariants.{NoPlacing}
-use Rattle.geometry.specs.Pass.{cleared, work_after}
+use Rattle.geometry.specs.Pass.{cleared}
 use Rattle.geometry.specs.inner.At.{mark_at}
 use Rattle.geometry.specs.inner.Each.{Each}
 use Rattle.geometry.proofs.Split.{lt-or-ge}
 use Rattle.geometry.proofs.Lent.{cleared-again}
-use Rattle.geometry.proofs.Verdicts.{zero-accepted}
 use Rattle.geometry.proofs.Accepted.{Accepted, PassAccepted, pass-accepted, accepted-rising, length-marks, marks-from}
 use Rattle.full.specs.Full.{work_named, FullLent, full_checks, FullContract, full_verdict, positions_after}
 use Rattle.full.specs.inner.Rest.{can, walk}

@@ -20,17 +20,13 @@ use geometry::entry::check_pass;
 use geometry::limits::MOST_MARKS;
 use geometry::refusal::Refusal;
 use geometry::strip::Strip;
+use geometry::work::clear;
 
 // The part of the work area that is named, and ends as zeros also at 11.
 pub const WORK_NAMED: usize = 20000;
 
 // The first placing of the strip at a gap of so many dots, or 11 if there is none; 6 to 10 or 12 if a check is not passed.
-pub fn full(
-    strip: Strip,
-    gap: u8,
-    positions: &mut [u8],
-    work: &mut [i16],
-) -> Result<(), Refusal>
+pub fn full(strip: Strip, gap: u8, positions: &mut [u8], work: &mut [i16]) -> Result<(), Refusal>
     ensures { FullContract
         (lists_of strip.entry) gap
         (full_lent positions.old work.old)
@@ -46,10 +42,10 @@ pub fn full(
     )?;
     let kept = table::fill(strip, gap, work);
     if kept == 0 {
-        work[..WORK_NAMED].fill(0);
+        clear(work, WORK_NAMED, 0);
         return Err(Refusal::NoPlacing);
     }
     walk::walk(strip, gap, work, positions);
-    work[..WORK_NAMED].fill(0);
+    clear(work, WORK_NAMED, 0);
     Ok(())
 }

@@ -15,8 +15,12 @@ fn store(work: &mut [i16], i: usize, kept: Kept)
     requires { (i < most_marks) × (4 * i + 4 ≤ length work.old) × RowHeld kept.reaches }
     ensures { work.new ≡ sets work.old (4 * i) (four kept.reaches) }
 {
+    let reaches = kept.reaches;
     let at = 4 * i;
-    work[at..at + 4].copy_from_slice(&kept.reaches);
+    work[at] = reaches[0];
+    work[at + 1] = reaches[1];
+    work[at + 2] = reaches[2];
+    work[at + 3] = reaches[3];
 }
 
 // Fills the table from the last mark to the first and returns the count of the first mark's kept part layouts; an empty strip,

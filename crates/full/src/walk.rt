@@ -50,7 +50,7 @@ fn step(before: Taken, mark: Mark, gap: u8, left_to_other: [i16; 3]) -> Taken
     ensures { Stepped
         gap before.above before.below mark.place mark.length
         (pick_by_row (dot before.above) (dot before.below) (dot mark.place - mark.length) (dot mark.place)
-            (dot (get_or left_to_other 0 (pos 0))) (dot (get_or left_to_other 1 (pos 0))) (dot (get_or left_to_other 2 (pos 0))))
+        (dot (get_or left_to_other 0 (pos 0))) (dot (get_or left_to_other 1 (pos 0))) (dot (get_or left_to_other 2 (pos 0))))
         (position_of result.position) result.above result.below }
 {
     let above = before.above;

@@ -11,7 +11,6 @@ use mir.Syntax.{w16}
 use mir.Val.{to_z, of_z}
 use Rattle.geometry.specs.Dot.{dot}
 use Rattle.geometry.specs.Position.{leftward, rightward}
-use Rattle.std.proofs.Common.{rules}
 use Rattle.geometry.proofs.Dots.{fetched}
 use Rattle.full.specs.inner.SixteenBits.{LeftEdge, Reach}
 use Rattle.full.specs.inner.OneMark.{Formed, GreatestReady, RowHeld}
@@ -67,4 +66,21 @@ greatest-requires-2 c =
     c.requires.2 c.left_edge-left.ensures.0 c.left_edge-left.ensures.1 (omega arith) (omega arith) _ c.reaches-own.ensures.far-held
 
 pub returns : goal.returns
-returns c = ?
+returns c =
+    let row = c.args.kept.reaches in
+    rw (
+      fetched c.greatest.result c.greatest.type_inv,
+      fetched c.greatest-2.result c.greatest-2.type_inv,
+      c.greatest.ensures.is,
+      c.greatest-2.ensures.is,
+      fetched (get_or row 0 (pos 0)) (omega arith),
+      fetched (get_or row 2 (pos 0)) (omega arith),
+      edge-back c.left_edge-left.result c.left_edge-left.ensures.1,
+      reach-back c.reaches-own.result.near c.reaches-own.ensures.near-held,
+      reach-back c.reaches-own.result.far c.reaches-own.ensures.far-held,
+      c.left_edge-left.ensures.0,
+      c.reaches-own.ensures.near-is,
+      c.reaches-own.ensures.far-is,
+      edge-back c.args.next.place ((formed-ends c.args.next.place c.args.next.length c.args.gap 0 c.requires.1).left-edge rightward),
+    )
+    at c.both_sides.ensures

@@ -2,13 +2,13 @@
 use mathlib.Core.Path.{◌≡◌, refl, sym, ◌∙◌}
 use mathlib.Core.Bool.{Bool, true, false, cond}
 use Prim.Native.Nat.{ℕ}
+use native.Mathlib.Omega.{arith}
 use lib.IntN.{ℤ, pos}
 use lib.ListN.{get_or}
 use Rattle.geometry.specs.Dot.{dot}
 use Rattle.geometry.specs.Mark.{Mark}
 use Rattle.geometry.specs.Position.{Position, leftward}
 use Rattle.geometry.specs.inner.Machine.{next_above, next_below}
-use Rattle.std.proofs.Common.{rules}
 use Rattle.geometry.proofs.Dots.{fetched}
 use Rattle.full.specs.inner.Rest.{first_passed_lem}
 use Rattle.full.specs.inner.OneMark.{Reached, StepReady, Stepped}
@@ -57,7 +57,45 @@ left_edge-left-requires c = (formed-ends c.args.mark.place c.args.mark.length c.
 
 pub returns : goal.returns
 returns c =
-    let t = c.leaves_rest-two.ensures in
-    let u = c.leaves_rest-one.ensures in
-    let v = c.if_passed.ensures in
-    ?
+    let own = c.reaches-own.ensures in
+    let above-read = fetched c.args.before.above (omega arith) in
+    let below-read = fetched c.args.before.below (omega arith) in
+    let near-read = reach-back c.reaches-own.result.near own.near-held in
+    let far-read = reach-back c.reaches-own.result.far own.far-held in
+    let left_is = c.left_edge-left.ensures.0 in
+    let left-read = edge-back c.left_edge-left.result c.left_edge-left.ensures.1 in
+    let place-read = fetched c.args.mark.place (omega arith) in
+    let first-read = fetched (get_or c.args.left_to_other 0 (pos 0)) (omega arith) in
+    let second-read = fetched (get_or c.args.left_to_other 1 (pos 0)) (omega arith) in
+    let third-read = fetched (get_or c.args.left_to_other 2 (pos 0)) (omega arith) in
+    let two_is = rw (left-read, left_is, above-read, below-read, first-read) at c.leaves_rest-two.ensures in
+    let three-is = rw (left-read, left_is, below-read, above-read, second-read) at c.leaves_rest-three.ensures in
+    let one-is = rw (above-read, place-read, below-read, third-read) at c.leaves_rest-one.ensures in
+    let up = rw (
+      fetched c.if_passed-above_rest.result c.if_passed-above_rest.type_inv,
+      c.if_passed-above_rest.ensures,
+      fetched c.if_passed-above_right.result c.if_passed-above_right.type_inv,
+      c.if_passed-above_right.ensures,
+      far-read,
+      near-read,
+      above-read,
+    )
+    at c.if_passed.ensures in
+    let down = rw (
+      fetched c.if_passed-below_rest.result c.if_passed-below_rest.type_inv,
+      c.if_passed-below_rest.ensures,
+      fetched c.if_passed-below_right.result c.if_passed-below_right.type_inv,
+      c.if_passed-below_right.ensures,
+      far-read,
+      near-read,
+      below-read,
+    )
+    at c.if_passed-2.ensures in
+    rw (
+      sym two_is,
+      sym three-is,
+      sym one-is,
+      fetched c.if_passed.result c.if_passed.type_inv,
+      fetched c.if_passed-2.result c.if_passed-2.type_inv,
+    )
+    (stepped _ _ _ _ _ _ _ own _ _ _ _ _ _ _ _ _ c.requires c.first_passed.ensures up down)
