@@ -22,7 +22,8 @@ fill-kept-requires c =
 
 pub clear-requires : goal.clear-requires
 clear-requires c =
-    roomy (lists_of c.args.strip) c.args.gap (full_lent c.args.positions.now c.args.work.now) _ (sym c.in_ok-check_pass.ensures) c.fill-kept.auto.work
+    let lent = full_lent c.args.positions.now c.args.work.now in
+    omega (arith, roomy (lists_of c.args.strip) c.args.gap lent _ (sym c.in_ok-check_pass.ensures) c.fill-kept.auto.work)
 
 pub returns-then-kept-eq0 : goal.returns-then-kept-eq0
 returns-then-kept-eq0 c =
@@ -36,7 +37,8 @@ walk-requires c =
 
 pub clear-requires-2 : goal.clear-requires-2
 clear-requires-2 c =
-    roomy (lists_of c.args.strip) c.args.gap (full_lent c.args.positions.now c.args.work.now) _ (sym c.in_ok-check_pass.ensures) c.fill-kept.auto.work
+    let lent = full_lent c.args.positions.now c.args.work.now in
+    omega (arith, roomy (lists_of c.args.strip) c.args.gap lent _ (sym c.in_ok-check_pass.ensures) c.fill-kept.auto.work)
 
 pub returns : goal.returns
 returns c =
