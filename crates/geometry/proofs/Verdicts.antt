@@ -7,16 +7,16 @@ use mathlib.Core.List.{List, [], ◌∷◌, ◌++◌}
 use Prim.Native.Nat.{ℕ}
 use native.Mathlib.Omega.{arith}
 use lib.Dec.{eqb}
-use borrow.Author.Tests.{eqb-false, not-true}
+use borrow.Author.Tests.{eqb-false, not-true, ne_eqb}
 use Rattle.std.specs.List.{list_all}
-use Rattle.std.specs.Prelude.{Result, Ok, Err, IsErrAnd}
+use Rattle.std.specs.Prelude.{Result, Ok, Err, IsErrAnd, is_ok}
 use Rattle.geometry.specs.Strip.{Strip, most_marks}
 use Rattle.geometry.specs.Entry.{lists_checks, count_checks, value_checks, entry_checks}
 use lib.ListN.{length}
 use Rattle.geometry.specs.Pass.{gap_checks, answer_checks, work_checks, pass_verdict}
 use Rattle.geometry.specs.Refusal.{Refusal, BytesEnd, StrayBit, AbsentValue, OutOfRange, BytesLeftOver, ListsUnequal, TooManyMarks}
 use Rattle.geometry.specs.Refusal.{BadMark, ListTooShort, WorkTooShort, NoPlacing, GapTooWide, StrayByte, refusal_number}
-use Rattle.geometry.specs.Refusal.{Verdict, accepted, refused, number_of, verdict_of, Check, after_check, first_failure}
+use Rattle.geometry.specs.Refusal.{Verdict, accepted, refused, number_of, verdict_of, answer_number, Check, after_check, first_failure}
 use Rattle.geometry.proofs.Split.{by_bool, and-fst, and-snd}
 
 -- no refusal has the number 0
@@ -75,6 +75,11 @@ module _ (cs ds : List Check) where
 
   pub all-passed : first_failure cs ≡ accepted → first_failure ds ≡ accepted → first_failure (cs ++ ds) ≡ accepted
   all-passed first second = verdict-passes first ∙ second
+
+-- an answer is accepted exactly if its number is 0
+pub ok-is-zero : {A : Type 0} (answer : Result A Refusal) → is_ok answer ≡ eqb (answer_number answer) 0
+ok-is-zero (Ok values) = refl
+ok-is-zero (Err r) = sym (ne_eqb (refusal_number r) 0 (refusal-positive r))
 
 -- what `?` hands on is the refusal that came
 pub handed-on : {A : Type 0} (answer : Result A Refusal) (r : Refusal) → IsErrAnd answer (λ e. e ≡ r) → verdict_of answer ≡ refused r

@@ -4,7 +4,7 @@
 use mathlib.Core.Path.{◌≡◌, refl, sym, ◌∙◌, ap}
 use mathlib.Core.Bool.{Bool, true, false, cond}
 use mathlib.Core.List.{List, [], ◌∷◌}
-use mathlib.Core.Option.{Option, none, some}
+use mathlib.Core.Option.{none, some}
 use Prim.Native.Nat.{ℕ, ◌*◌, ◌-◌, ◌≤◌, ◌<◌}
 use native.Mathlib.Omega.{arith}
 use lib.Dec.{leb}
@@ -15,17 +15,16 @@ use Rattle.geometry.specs.Lists.{first_of}
 use Rattle.std.specs.List.{list_all}
 use Rattle.geometry.specs.Mark.{most_length, length_in_range_lem}
 use Rattle.geometry.specs.Strip.{Strip, most_marks}
-use Rattle.geometry.specs.Position.{Position}
-use Rattle.geometry.specs.Refusal.{Verdict, accepted, refused, number_of, refusal_number}
+use Rattle.geometry.specs.Refusal.{accepted, refused, refusal_number}
+use Rattle.geometry.specs.declared.refusal.Refusal.{Refusal}
 use Rattle.geometry.specs.declared.refusal.Refusal.TheVariants.{NoPlacing}
-use Rattle.geometry.specs.Pass.{cleared, work_after}
+use Rattle.geometry.specs.Pass.{cleared}
 use Rattle.geometry.proofs.Split.{both, one-to, by_bool}
 use Rattle.geometry.proofs.Lent.{cleared-again, drop-cleared}
 use Rattle.geometry.proofs.Accepted.{pass-accepted, first_good, rest-good}
-use Rattle.full.specs.Full.{work_named, FullLent, full_checks, full_verdict, positions_after}
-use Rattle.largest.specs.Widths.{none_over_lem, placing_at, fits_at, widest, widths_from, largest_width, placing_of}
-use Rattle.largest.specs.Largest.{width_after, LargestContract}
-use Rattle.largest.specs.declared.answer.Largest.{Largest}
+use Rattle.full.specs.Full.{work_named, FullLent, full_checks}
+use Rattle.largest.specs.Widths.{none_over_lem, placing_at, fits_at, widest, widths_from, largest_width}
+use Rattle.largest.specs.Largest.{Largest, LargestContract}
 use Rattle.largest.specs.inner.Cells.{most_of}
 use Rattle.largest.specs.inner.Trial.{TrialReady, Tried}
 use Rattle.largest.proofs.FullAtWidth.{not_there, is-there, there-within}
@@ -44,18 +43,10 @@ unfolding placing_at
 fits-within g s width = there-within (none_over_lem width s.lengths) _
 
 module _ (s : Strip) (g : ℕ) (entry : FullLent) where
-  -- a refusal of the checks: its number, width 0, and nothing changed
-  by-refusal : (v : Verdict) (o : Option (List Position)) (w : Option ℕ) (n : ℕ) → n ≡ number_of v → (n ≡ 0 → ⊥)
-      → (n ≡ number_of (full_verdict v o)) × (0 ≡ width_after v w) × (entry.positions ≡ positions_after v o entry.positions)
-      × (entry.work ≡ work_after work_named (pos 0) v entry.work)
-  by-refusal accepted o w n e z = absurd (z e)
-  by-refusal (refused r) o w n e z = (e, refl, refl, refl)
-
-  pub refused-call : (r : Largest) → r.number ≡ number_of (full_checks s g entry) → (r.number ≡ 0 → ⊥) → r.width ≡ 0
-      → LargestContract s g entry entry r
-  refused-call r e z width-0 =
-      let met = by-refusal (full_checks s g entry) (placing_of g s (largest_width g s)) (largest_width g s) r.number e z in
-      record { number_is = met.0; width_is = width-0 ∙ met.1; positions-are = met.2; work-is = met.3 }
+  -- a call that the checks refuse meets the contract: their number, width 0, and nothing changed
+  pub refused-call : (r : Refusal) → full_checks s g entry ≡ refused r
+      → LargestContract s g entry entry (record { number = refusal_number r; width = 0 })
+  refused-call r e = record { number_is = rw e refl; width_is = rw e refl; positions-are = rw e refl; work-is = rw e refl }
 
   -- the widths so far did not fit: the first that does is among those left
   pub record Trying (lent : FullLent) (width : ℕ) : Type 0 where

@@ -9,7 +9,6 @@ use Prim.Native.Nat.{ℕ}
 use native.Mathlib.Omega.{arith}
 use lib.ListN.{length, drop_of_length-le}
 use Rattle.geometry.specs.Lists.{first_of, words_of}
-use Rattle.std.specs.List.{list_all}
 use Rattle.geometry.specs.Strip.{Strip, marks_of_lists, most_marks}
 use Rattle.geometry.specs.Overlap.{free}
 use Rattle.geometry.specs.Placing.{first_placing}
@@ -20,8 +19,7 @@ use Rattle.geometry.proofs.Words.{never-none}
 use Rattle.geometry.proofs.Accepted.{pass-accepted}
 use Rattle.full.specs.Full.{work_named, FullLent, full_checks}
 use Rattle.largest.specs.Widths.{placing_at, fits_at, widest, largest_width}
-use Rattle.largest.specs.Largest.{LargestContract, IsLargest, LargestInWords}
-use Rattle.largest.specs.declared.answer.Largest.{Largest}
+use Rattle.largest.specs.Largest.{Largest, LargestContract, IsLargest, LargestInWords}
 use Rattle.largest.proofs.FullAtWidth.{is-there}
 use Rattle.largest.proofs.SmallerWidths.{smaller-fits}
 use Rattle.largest.proofs.GreatestFirst.{first-greatest, greatest-first, none-fits-at-all}

@@ -12,7 +12,6 @@ use lib.Dec.{leb}
 use lib.ListN.{length, get_or, drop}
 use lib.Seq.{drop-cons, drop-length}
 use borrow.Author.Tests.{le-leb, lt-leb}
-use Rattle.std.specs.List.{list_all}
 use Rattle.geometry.specs.Mark.{most_length}
 use Rattle.geometry.proofs.Split.{by-leb, same_test, lt-or-ge}
 use Rattle.largest.specs.Widths.{none_over_lem}

@@ -7,7 +7,6 @@ use mathlib.Core.Option.{some}
 use lib.IntN.{pos}
 use lib.ListN.{replicate}
 use Rattle.geometry.specs.Lists.{first_of, prefixed, words_of}
-use Rattle.std.specs.List.{list_all}
 use Rattle.geometry.specs.Strip.{Strip, strip, marks_of_lists}
 use Rattle.geometry.specs.Position.{above, below, leftward, rightward, at}
 use Rattle.geometry.specs.Overlap.{apart, free}

@@ -1,6 +1,6 @@
 -- What the call settles. "Checks, order and lent areas are those of the full pass, with cells in place of lengths; a refusal gives width 0,
 -- and a width found comes with the full pass's positions at it." (document 02, P6)
-use Rattle.std.specs.Prelude.{ℕ, ◌≤◌, ◌<◌, ◌≡◌, Bool, true, false, ◌↔◌, [], pos}
+use Rattle.std.specs.Prelude.{ℕ, Result, Ok, Err, ◌≤◌, ◌<◌, ◌≡◌, Bool, true, false, ◌↔◌, [], pos}
 use Rattle.std.proofs.Math.Option.{Option, none, some}
 use Rattle.geometry.specs.Strip.{Strip}
 use Rattle.geometry.specs.Refusal.{Verdict, accepted, refused, number_of, refusal_number}
@@ -8,13 +8,22 @@ use Rattle.geometry.specs.declared.refusal.Refusal.TheVariants.{NoPlacing}
 use Rattle.geometry.specs.Pass.{work_after}
 use Rattle.full.specs.Full.{work_named, FullLent, full_checks, full_verdict, positions_after}
 use Rattle.largest.specs.Widths.{fits_at, widest, largest_width, placing_of}
-use Rattle.largest.specs.declared.answer.Largest.{Largest}
+use Rattle.geometry.specs.declared.refusal.Refusal.{Refusal}
 
 -- "a refusal gives width 0", also 11
 abbrev pub width_after : Verdict → Option ℕ → ℕ
 width_after (refused r) width = 0
 width_after accepted none = 0
 width_after accepted (some width) = width
+
+-- what the call hands back: the number, and the greatest width in dots at which the labels fit, 0 at every refusal
+pub record Largest : Type 0 where
+  pub number : ℕ
+  pub width : ℕ
+
+abbrev pub largest_answer : Result ℕ Refusal → Largest
+largest_answer (Ok width) = record { number = 0; width = width }
+largest_answer (Err r) = record { number = refusal_number r; width = 0 }
 
 -- The contract: the strip with cells in place of lengths, the gap, the lent lists at entry and at exit, and the answer. Nothing is open.
 pub record LargestContract (s : Strip) (g : ℕ) (entry exit : FullLent) (r : Largest) : Type 0 where

@@ -1,11 +1,6 @@
 -- `largest::scaled::scale` meets its contract: the lengths written so far and those that are left are the lengths at the width.
-use Prim.Native.Nat.{◌-◌}
-use lib.ListN.{length}
 use Rattle.largest.proofs.Scaling.{Scaling}
 use Rattle.largest.proofs.scaled.scale.Given as goal
 
 abbrev pub invariant-loop-i : goal.invariant-loop-i
 invariant-loop-i l = Scaling l.width l.cells l.initial.lengths l.lengths l.i
-
-abbrev pub decreases-loop-i : goal.decreases-loop-i
-decreases-loop-i l = length l.cells - l.i
