@@ -5,7 +5,7 @@ use mathlib.Core.Path.{◌≡◌, refl, sym, ◌∙◌, ap, ap₂}
 use mathlib.Core.Bool.{Bool, true, false}
 use mathlib.Core.Logic.{◌↔◌}
 use mathlib.Core.List.{List, [], ◌∷◌, map}
-use Prim.Native.Nat.{ℕ, min, ◌<◌}
+use Prim.Native.Nat.{ℕ, min}
 use native.Mathlib.Omega.{arith}
 use lib.ListN.{length}
 use Rattle.geometry.specs.Dot.{dot, empty_reach}
@@ -13,14 +13,16 @@ use Rattle.geometry.specs.Mark.{Mark}
 use Rattle.geometry.specs.Strip.{Strip, marks_of, most_short}
 use Rattle.geometry.specs.Position.{Side}
 use Rattle.geometry.specs.Sliding.{leftmost_edges, none_beyond, slides_whole}
-use Rattle.geometry.specs.Refusal.{Verdict, accepted, refused, number_of, refusal_number, NoPlacing}
+use Rattle.geometry.specs.Refusal.{Verdict, accepted, refused, number_of, refusal_number}
+use Rattle.geometry.specs.declared.refusal.Refusal.{Refusal}
+use Rattle.geometry.specs.declared.refusal.Refusal.TheVariants.{NoPlacing as no_placing}
 use Rattle.geometry.specs.inner.Place.{place_of_lem}
 use Rattle.geometry.specs.inner.Rising.{Rising}
-use Rattle.geometry.specs.Pass.{work_after}
+use Rattle.geometry.specs.Pass.{pass_verdict}
 use Rattle.geometry.proofs.Accepted.{Accepted, PassAccepted, pass-accepted, accepted-rising, length-marks}
 use Rattle.geometry.proofs.Places.{dot-of-place}
 use Rattle.geometry.proofs.Split.{by_bool}
-use Rattle.geometry.proofs.Verdicts.{zero-accepted}
+use Rattle.geometry.proofs.Verdicts.{refusal-positive}
 use Rattle.geometry.proofs.WholeEdges.{leftmost-placing, whole-slides, none-slides}
 use Rattle.slide.specs.Slide.{SlideLent, slide_checks, slide_verdict, work_named, NoPlacing, Placed, SlideContract}
 use Rattle.slide.specs.inner.Answer.{AnswerReady, Answer}
@@ -30,21 +32,12 @@ use Rattle.slide.proofs.WalkAllowed.{walk-allowed, walk-length}
 use Rattle.slide.proofs.PlainMarks.{marks-inside, marks-length}
 use Rattle.slide.proofs.WeightsIdle.{plain-edges, plain-beyond, plain_fits}
 
--- a refusal by the checks stands
-refusal-stands : (v : Verdict) (slides : Bool) → (number_of v ≡ 0 → ⊥) → number_of (slide_verdict v slides) ≡ number_of v
-refusal-stands accepted slides positive = absurd (positive refl)
-refusal-stands (refused r) slides positive = refl
-
-work-stands : (v : Verdict) (work : List ℕ) → (number_of v ≡ 0 → ⊥) → work_after work_named 0 v work ≡ work
-work-stands accepted work positive = absurd (positive refl)
-work-stands (refused r) work positive = refl
-
 -- what the number past the checks says
 zero-slides : (t : Bool) (n : ℕ) → n ≡ number_of (slide_verdict accepted t) → n ≡ 0 → t ≡ true
 zero-slides true n e z = refl
 zero-slides false n e z = absurd (omega arith)
 
-eleven-misses : (t : Bool) (n : ℕ) → n ≡ number_of (slide_verdict accepted t) → (n ≡ refusal_number NoPlacing) ↔ (t ≡ false)
+eleven-misses : (t : Bool) (n : ℕ) → n ≡ number_of (slide_verdict accepted t) → (n ≡ refusal_number no_placing) ↔ (t ≡ false)
 eleven-misses true n e = (λ eleven. absurd (omega arith), λ no. absurd (mathlib.Core.Bool.true≢false no))
 eleven-misses false n e = (λ _. refl, λ _. e)
 
@@ -68,8 +61,9 @@ module _ (s : Strip) (g : ℕ) (entry : SlideLent) where
   passed e = pass-accepted most_short s g (min (length entry.sides) (length entry.edges)) work_named (length entry.work) e
 
   -- what the inner functions ask of the lists and the gap
-  checked : Passed → Checked s.places s.lengths g
-  checked p =
+  pub checked : slide_checks s g entry ≡ accepted → Checked s.places s.lengths g
+  checked past =
+      let p = passed past in
       let good = p.entered in
       record {
         same_count = sym good.same-lengths;
@@ -79,24 +73,28 @@ module _ (s : Strip) (g : ℕ) (entry : SlideLent) where
         gap-narrow = p.gap-narrow;
       }
 
-  module _ (n : ℕ) (n-is : n ≡ number_of (slide_checks s g entry)) where
-    -- they are what the answer asks
-    pub answer-ready : n ≡ 0 → AnswerReady s.places s.lengths g entry
-    answer-ready z =
-        let p = passed (zero-accepted (slide_checks s g entry) (sym n-is ∙ z)) in
-        record { checked = checked p; sides-long = omega (arith, p.list-long); edges-long = omega (arith, p.list-long); work-long = p.work-long }
+  -- what the checks gave, from the shorter answer list as the code finds it
+  pub checks-made : (shortest : ℕ) {v : Verdict} → v ≡ pass_verdict most_short s g shortest work_named (length entry.work)
+      → shortest ≡ min (length entry.sides) (length entry.edges) → v ≡ slide_checks s g entry
+  checks-made shortest is short = is ∙ ap (λ (k : ℕ). pass_verdict most_short s g k work_named (length entry.work)) short
 
-    -- a refusal by the checks
-    pub refused-right : 0 < n → SlideContract s g entry entry n
-    refused-right positive =
-        let stands : number_of (slide_checks s g entry) ≡ 0 → ⊥ = λ z. omega (arith, n-is ∙ z) in
-        record {
-          number_is = n-is ∙ sym (refusal-stands (slide_checks s g entry) (slides_whole g (marks_of s)) stands);
-          none-exactly = λ a. absurd (stands (ap number_of a));
-          where-placed = λ z. absurd (omega arith);
-          where-refused = λ _. record { sides-unchanged = refl; edges-unchanged = refl };
-          work-is = sym (work-stands (slide_checks s g entry) entry.work stands);
-        }
+  -- past them they are what the answer asks
+  pub answer-ready : slide_checks s g entry ≡ accepted → AnswerReady s.places entry
+  answer-ready past =
+      let p = passed past in
+      record { sides-long = omega (arith, p.list-long); edges-long = omega (arith, p.list-long); work-long = p.work-long }
+
+  -- a refusal by them
+  pub refused-right : (r : Refusal) {v : Verdict} → v ≡ refused r → slide_checks s g entry ≡ refused r → SlideContract s g entry entry (number_of v)
+  refused-right r is refuses =
+      rw is
+      (record {
+        number_is = rw refuses refl;
+        none-exactly = λ a. absurd (refusal-positive r (ap number_of (sym refuses ∙ a)));
+        where-placed = λ z. absurd (refusal-positive r z);
+        where-refused = λ _. record { sides-unchanged = refl; edges-unchanged = refl };
+        work-is = rw refuses refl;
+      })
 
   -- an answer past the checks
   module _ (past : slide_checks s g entry ≡ accepted) (exit : SlideLent) (n : ℕ) (answer : Answer s.places s.lengths g entry exit n) where
@@ -121,7 +119,7 @@ module _ (s : Strip) (g : ℕ) (entry : SlideLent) where
     one-side-each : length sides ≡ length (marks_of s)
     one-side-each =
         walk-length g empty_reach empty_reach (plain_marks s.places s.lengths)
-        ∙ marks-length s.places s.lengths g (checked (passed past))
+        ∙ marks-length s.places s.lengths g (checked past)
         ∙ sym (length-marks s good.same-lengths good.same-weights)
 
     -- the leftmost edges of the walk's sides are allowed
@@ -130,7 +128,7 @@ module _ (s : Strip) (g : ℕ) (entry : SlideLent) where
         let marks : List Mark = plain_marks s.places s.lengths in
         rw (← same_edges)
         (sym (plain-beyond s good.same-lengths good.same-weights (leftmost_edges g marks sides))
-        ∙ walk-allowed g empty_reach empty_reach marks (marks-inside s.places s.lengths g (checked (passed past))) (omega arith) fits)
+        ∙ walk-allowed g empty_reach empty_reach marks (marks-inside s.places s.lengths g (checked past)) (omega arith) fits)
 
     -- number 0: the answer lists hold a placing
     placed : n ≡ 0 → Placed g (marks_of s) entry exit

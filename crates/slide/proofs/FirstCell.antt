@@ -11,11 +11,12 @@ use lib.IntN.{ℤ}
 use lib.ListN.{length, get_or}
 use Rattle.geometry.specs.Dot.{empty_reach}
 use Rattle.geometry.specs.Pass.{cleared}
-use Rattle.geometry.specs.Refusal.{accepted, number_of, refusal_number, NoPlacing}
+use Rattle.geometry.specs.Refusal.{Verdict, accepted, number_of, after_check}
+use Rattle.geometry.specs.declared.refusal.Refusal.TheVariants.{NoPlacing as no_placing}
 use Rattle.geometry.proofs.Lent.{cleared-again}
 use Rattle.slide.specs.Slide.{SlideLent, slide_lent, AnswersUnchanged, slide_verdict, work_named}
 use Rattle.slide.specs.inner.Answer.{AnswerReady, Answer}
-use Rattle.slide.specs.inner.Plain.{plain_marks}
+use Rattle.slide.specs.inner.Plain.{plain_marks, Checked}
 use Rattle.slide.specs.inner.Room.{slideable}
 use Rattle.slide.specs.inner.Table.{TableHolds, TableFrom}
 use Rattle.slide.specs.inner.Walk.{fits_plain, WalkReady, Walked}
@@ -41,6 +42,19 @@ first-decides (z ∷ zs) [] g cells same inside table = absurd (omega arith)
 first-decides (z ∷ zs) (l ∷ ls) g cells same inside table =
     rw (ne_eqb (length (z ∷ zs)) 0 (omega arith), table.0 0 (omega arith)) (sym (first_cell g _ _ inside))
 
+-- what the check of that test says
+as_verdict : (t : Bool) → after_check t no_placing accepted ≡ slide_verdict accepted t
+as_verdict true = refl
+as_verdict false = refl
+
+fits-at-0 : (t : Bool) (v : Verdict) → v ≡ after_check t no_placing accepted → number_of v ≡ 0 → t ≡ true
+fits-at-0 true v is z = refl
+fits-at-0 false v is z = absurd (omega (arith, ap number_of is))
+
+misses-else : (t : Bool) (v : Verdict) → v ≡ after_check t no_placing accepted → (number_of v ≡ 0 → ⊥) → t ≡ false
+misses-else true v is positive = absurd (positive (ap number_of is))
+misses-else false v is positive = refl
+
 -- a strip past the checks, its table filled, and the answer of the test
 module _
     (places : List ℤ)
@@ -48,7 +62,8 @@ module _
     (g : ℕ)
     (entry : SlideLent)
     (filled : List ℕ)
-    (ready : AnswerReady places lengths g entry)
+    (checked : Checked places lengths g)
+    (ready : AnswerReady places entry)
     (table : TableFrom g entry.work filled 0 (plain_marks places lengths))
     (t : Bool)
     (tested : t ≡ first_test places filled)
@@ -56,13 +71,12 @@ module _
     -- the test says whether the strip fits
     decided : t ≡ fits_plain places lengths g
     decided =
-        tested ∙ first-decides places lengths g filled ready.checked.same_count (marks-inside places lengths g ready.checked) table.table
+        tested ∙ first-decides places lengths g filled checked.same_count (marks-inside places lengths g checked) table.table
 
     -- where it does, the walk may begin
     pub walk-ready : t ≡ true → WalkReady places lengths g (slide_lent entry.sides entry.edges filled)
     walk-ready fits =
         record {
-          checked = ready.checked;
           sides-long = ready.sides-long;
           edges-long = ready.edges-long;
           work-long = omega (arith, ready.work-long, table.same_length);
@@ -70,30 +84,13 @@ module _
           fits = sym decided ∙ fits;
         }
 
-    module _ (exit : SlideLent) (number : ℕ) (clear : exit.work ≡ cleared work_named 0 filled) where
-      -- clearing the filled table leaves what clearing the lent work area would
-      work-cleared : exit.work ≡ cleared work_named 0 entry.work
-      work-cleared = cleared-again work_named 0 exit.work filled entry.work clear table.beyond
-
-      -- the number by the answer of the test
-      number_by : (u : Bool) → t ≡ u → number_of (slide_verdict accepted u) ≡ number_of (slide_verdict accepted (fits_plain places lengths g))
-      number_by u is = ap (λ (v : Bool). number_of (slide_verdict accepted v)) (sym is ∙ decided)
-
-      -- the two cases: 11 with the answer lists unchanged, and 0 with what the walk wrote
-      pub no_answer : t ≡ false → number ≡ refusal_number NoPlacing → AnswersUnchanged entry exit → Answer places lengths g entry exit number
-      no_answer misses eleven unchanged =
-          record {
-            number_is = eleven ∙ number_by false misses;
-            where-placed = λ zero_number. absurd (omega arith);
-            where-none = λ _. unchanged;
-            work-cleared = work-cleared;
-          }
-
-      pub some-answer : t ≡ true → number ≡ 0 → Walked places lengths g entry exit → Answer places lengths g entry exit number
-      some-answer fits zero_number walked =
-          record {
-            number_is = zero_number ∙ number_by true fits;
-            where-placed = λ _. walked;
-            where-none = λ positive. absurd (positive zero_number);
-            work-cleared = work-cleared;
-          }
+    -- what is left: the number of the check that follows, and lent lists that the walk has written or nothing has
+    pub answered : (exit : SlideLent) (v : Verdict) → v ≡ after_check t no_placing accepted → (t ≡ true → Walked places lengths g entry exit)
+        → (t ≡ false → AnswersUnchanged entry exit) → exit.work ≡ cleared work_named 0 filled → Answer places lengths g entry exit (number_of v)
+    answered exit v checked-is walked unchanged clear =
+        record {
+          number_is = ap number_of (checked-is ∙ as_verdict t) ∙ ap (λ (u : Bool). number_of (slide_verdict accepted u)) decided;
+          where-placed = λ zero_number. walked (fits-at-0 t v checked-is zero_number);
+          where-none = λ positive. unchanged (misses-else t v checked-is positive);
+          work-cleared = cleared-again work_named 0 exit.work filled entry.work clear table.beyond;
+        }

@@ -12,18 +12,14 @@ use mir.Syntax.{w16}
 use mir.Val.{to_z, of_z}
 use Rattle.geometry.specs.Dot.{dot}
 use Rattle.std.specs.List.{list_all}
-use Rattle.geometry.specs.Mark.{Mark, place_in_range_lem, length_in_range_lem, most_length}
+use Rattle.geometry.specs.Mark.{place_in_range_lem, length_in_range_lem, most_length}
 use Rattle.geometry.specs.Pass.{most_gap}
 use Rattle.geometry.proofs.Split.{one-to}
 use Rattle.geometry.proofs.Accepted.{every-at, first_good, rest-good}
 use Rattle.geometry.proofs.Dots.{range-dots, fetched}
-use Rattle.slide.specs.inner.Plain.{plain_mark, plain_marks, Checked}
+use Rattle.slide.specs.inner.Plain.{plain_mark, plain_marks, plain_at, Checked}
 use Rattle.slide.specs.inner.Room.{GoodLabel}
 use Rattle.slide.proofs.ExactCells.{Inside}
-
--- the mark at an index
-abbrev pub plain_at : List ℤ → List ℕ → ℕ → Mark
-plain_at places lengths i = plain_mark (dot (get_or places i (pos 0))) (get_or lengths i 0)
 
 -- the dot that the code finds of a place that it reads
 pub dot-read : (z : ℤ) (found : ℕ) → mag z < 32768 → found ≡ dot (to_z w16 (of_z w16 z)) → found ≡ dot z

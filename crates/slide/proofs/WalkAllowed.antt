@@ -11,12 +11,12 @@ use lib.Dec.{leb, ltb}
 use lib.ListN.{length}
 use Rattle.geometry.specs.Dot.{empty_reach}
 use Rattle.geometry.specs.Mark.{Mark}
-use Rattle.geometry.specs.Position.{Side, above, below, side_code, own_reach, above_after, below_after}
+use Rattle.geometry.specs.Position.{Side, above, below, own_reach, above_after, below_after}
 use Rattle.geometry.specs.Sliding.{leftmost_edge, edges_from, none_beyond}
 use Rattle.geometry.specs.inner.Outside.{no_bound}
 use Rattle.geometry.proofs.Split.{by_bool, both, and-fst, and-snd, or_cases, clash}
 use Rattle.slide.specs.inner.Room.{reach_at, reach_past, slideable, own_side_lem, room}
-use Rattle.slide.specs.inner.Walk.{takes_above, side_of, side_before, sides_from, LabelOn}
+use Rattle.slide.specs.inner.Walk.{takes_above, side_if, side_before, sides_from, LabelOn}
 use Rattle.slide.proofs.Slideable.{exchanged}
 use Rattle.slide.proofs.ExactCells.{Inside, cells_of, room-exact, own-side-exact}
 
@@ -32,7 +32,7 @@ pub walk-goes : (g a b : ℕ) (m : Mark) (ms : List Mark) → Inside g (m ∷ ms
 unfolding slideable
 walk-goes g a b m ms inside small e =
     let is = own-side-exact g a b m ms inside small in
-    by_bool (takes_above a b m (cells_of g m ms)) (λ t. Goes g a b m ms (side_of t))
+    by_bool (takes_above a b m (cells_of g m ms)) (λ t. Goes g a b m ms (side_if t))
     (λ yes-above. let h = sym is ∙ yes-above in (leb-true a m.place (and-fst _ _ h), and-snd (leb a m.place) _ h))
     (λ no_above.
     ⊎_elim
@@ -88,7 +88,7 @@ module _ (m : Mark) (a b cell : ℕ) (cells : ℕ → ℕ) (cell-is : cell ≡ o
 
 -- a label on side s, as the code computes it: its edge, and the reach of its side after it
 pub label-on : (g : ℕ) (s : Side) (m : Mark) (a b edge reach : ℕ) → edge ≡ leftmost_edge m (own_reach s a b) → reach ≡ edge + m.label_length + g
-    → LabelOn g s m a b (side_code s) edge (above_after s reach a) (below_after s reach b)
+    → LabelOn g s m a b s edge (above_after s reach a) (below_after s reach b)
 label-on g s m a b edge reach e counted =
     let past : reach ≡ reach_past g m (own_reach s a b) = omega arith in
     record { side-is = refl; edge-is = e; above-is = ap (λ r. above_after s r a) past; below-is = ap (λ r. below_after s r b) past }

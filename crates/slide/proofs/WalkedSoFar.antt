@@ -7,8 +7,7 @@ use Prim.Native.Nat.{ℕ, suc, ◌+◌, ◌*◌, ◌≤◌, ◌<◌}
 use native.Mathlib.Omega.{arith}
 use lib.Dec.{ltb}
 use lib.IntN.{ℤ}
-use lib.ListN.{length, drop, set, length-map}
-use lib.Seq.{get_or-drop}
+use lib.ListN.{length, drop, set, length-map, length-drop}
 use Rattle.geometry.specs.Dot.{empty_reach}
 use Rattle.geometry.specs.Mark.{Mark}
 use Rattle.geometry.specs.Position.{Side, side_code, own_reach, above_after, below_after}
@@ -18,13 +17,13 @@ use Rattle.geometry.specs.inner.Place.{place_of_lem}
 use Rattle.geometry.specs.inner.Outside.{no_bound}
 use Rattle.geometry.proofs.Each.{each-drop}
 use Rattle.slide.specs.Slide.{work_named}
-use Rattle.slide.specs.inner.Plain.{plain_marks, Checked}
+use Rattle.slide.specs.inner.Plain.{plain_marks, plain_at, Checked}
 use Rattle.slide.specs.inner.Room.{slideable}
-use Rattle.slide.specs.inner.Table.{row_cells, row_from, RowHolds, TableHolds}
-use Rattle.slide.specs.inner.Walk.{takes_above, side_of, side_before, sides_from, LabelOn, StepReady, fits_plain}
+use Rattle.slide.specs.inner.Table.{row_cells, cell_in, RowHolds, TableHolds}
+use Rattle.slide.specs.inner.Walk.{takes_above, side_if, side_before, sides_from, LabelOn, StepReady, fits_plain}
 use Rattle.slide.proofs.ExactCells.{LabelInside, Inside, cells_of}
 use Rattle.slide.proofs.WalkAllowed.{Goes, walk-goes, below-small, walk-length}
-use Rattle.slide.proofs.PlainMarks.{plain_at, marks-inside, marks-length, label_at, marks-from, marks-end}
+use Rattle.slide.proofs.PlainMarks.{marks-inside, marks-length, label_at, marks-from, marks-end}
 use Rattle.slide.proofs.FilledRows.{own_same}
 use Rattle.slide.proofs.RowByRow.{rows-from}
 use Rattle.slide.proofs.WrittenSoFar.{WrittenTo, written_none, written-more, written_all}
@@ -39,7 +38,7 @@ edges-length g a b (m ∷ ms) (s ∷ ss) e =
     ap suc (edges-length g (above_after s x a) (below_after s x b) ms ss (omega arith))
 
 -- where above is not taken, below is free
-below_free : (t : Bool) (g a b : ℕ) (m : Mark) (ms : List Mark) → Goes g a b m ms (side_of t) → t ≡ false → b ≤ m.place
+below_free : (t : Bool) (g a b : ℕ) (m : Mark) (ms : List Mark) → Goes g a b m ms (side_if t) → t ≡ false → b ≤ m.place
 below_free true g a b m ms goes e = absurd (mathlib.Core.Bool.true≢false e)
 below_free false g a b m ms goes e = goes.0
 
@@ -51,8 +50,8 @@ abbrev edges_left : ℕ → ℕ → ℕ → List Mark → List ℤ
 edges_left g a b ms = map place_of_lem (edges_from g a b ms (sides_from g a b ms))
 
 -- it begins with the next label
-module _ (g : ℕ) (m : Mark) (ms : List Mark) (a b side edge c d : ℕ) (label : LabelOn g (side_before g a b m ms) m a b side edge c d) where
-  next-side : sides_left g a b (m ∷ ms) ≡ side ∷ sides_left g c d ms
+module _ (g : ℕ) (m : Mark) (ms : List Mark) (a b : ℕ) (side : Side) (edge c d : ℕ) (label : LabelOn g (side_before g a b m ms) m a b side edge c d) where
+  next-side : sides_left g a b (m ∷ ms) ≡ side_code side ∷ sides_left g c d ms
   unfolding sides_from
   next-side = rw (label.side-is, label.above-is, label.below-is) refl
 
@@ -126,7 +125,7 @@ module _ (places : List ℤ) (lengths : List ℕ) (g : ℕ) where
         rest = drop (i + 1) marks
 
         abbrev row : ℕ → ℕ
-        row = row_from work (i * row_cells)
+        row = cell_in (drop (i * row_cells) work)
 
         -- what is left begins with it, inside the coordinates, and goes on with the side that the walk takes
         left-marks : drop i marks ≡ here ∷ rest
@@ -146,31 +145,31 @@ module _ (places : List ℤ) (lengths : List ℕ) (g : ℕ) where
         same_test : takes_above a b here row ≡ takes_above a b here (cells_of g here rest)
         same_test =
             ap (ltb b)
-            (own_same here a row (cells_of g here rest) inside.0.left (λ d h. sym (get_or-drop (i * row_cells) work d 0) ∙ row-holds d h))
+            (own_same here a row (cells_of g here rest) inside.0.left row-holds)
 
-        -- what the step asks
-        pub step-ready : work_named ≤ length work → StepReady work (i * row_cells) here g a b
-        step-ready long =
-            let label = label_at places lengths g checked i more in
-            record {
-              row-there = omega (arith, checked.few);
-              label = label;
+        -- what the step asks of the mark and the row that the code finds
+        pub step-ready : (m : Mark) (cells : List ℕ) → m ≡ here → cells ≡ drop (i * row_cells) work → work_named ≤ length work
+            → StepReady cells m g a b
+        step-ready m cells m-is cells-are long =
+            rw (m-is, cells-are)
+            (record {
+              row-there = omega (arith, checked.few, label_at places lengths g checked i more, length-drop (i * row_cells) work);
               gap-narrow = checked.gap-narrow;
               one_free = λ e. below_free _ g a b here rest goes (sym same_test ∙ e);
-            }
+            })
 
         -- the state after the label that the code makes
-        pub walked_more : (side edge c d next : ℕ) → LabelOn g (side_of (takes_above a b here row)) here a b side edge c d → next ≡ i + 1
-            → i < length sides → i < length edges
-            → WalkedTo old_sides (set sides i side) old_edges (set edges i (place_of_lem edge)) c d next
-        walked_more side edge c d next made one_more sides-long edges-long =
-            let label : LabelOn g (side_before g a b here rest) here a b side edge c d = rw same_test at made in
-            rw one_more
-            (record {
+        pub walked_more : (m : Mark) (cells : List ℕ) → m ≡ here → cells ≡ drop (i * row_cells) work → (side : Side) (edge c d : ℕ)
+            → LabelOn g (side_if (takes_above a b m (cell_in cells))) m a b side edge c d → i < length sides → i < length edges
+            → WalkedTo old_sides (set sides i (side_code side)) old_edges (set edges i (place_of_lem edge)) c d (i + 1)
+        walked_more m cells m-is cells-are side edge c d made sides-long edges-long =
+            let at-row = rw (m-is, cells-are) at made in
+            let label : LabelOn g (side_before g a b here rest) here a b side edge c d = rw same_test at at-row in
+            record {
               small = rw label.below-is (below-small g (side_before g a b here rest) here rest a b inside goes.0 walked.small);
               going = rw (label.above-is, label.below-is) goes.1;
-              sides-so-far = written-more all_sides sides old_sides i side (sides_left g c d rest)
+              sides-so-far = written-more all_sides sides old_sides i (side_code side) (sides_left g c d rest)
                   (rw (left-marks, next-side g here rest a b side edge c d label) at walked.sides-so-far) sides-long;
               edges-so-far = written-more all_edges edges old_edges i (place_of_lem edge) (edges_left g c d rest)
                   (rw (left-marks, next_edge g here rest a b side edge c d label) at walked.edges-so-far) edges-long;
-            })
+            }

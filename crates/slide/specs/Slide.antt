@@ -8,7 +8,8 @@ use Rattle.geometry.specs.Mark.{Mark}
 use Rattle.geometry.specs.Strip.{Strip, marks_of, most_short}
 use Rattle.geometry.specs.Position.{Side, side_code}
 use Rattle.geometry.specs.Sliding.{SlidingPlacing, Slides, leftmost_edges, slides_whole}
-use Rattle.geometry.specs.Refusal.{Verdict, accepted, refused, number_of, refusal_number, NoPlacing}
+use Rattle.geometry.specs.Refusal.{Verdict, accepted, refused, number_of, refusal_number}
+use Rattle.geometry.specs.declared.refusal.Refusal.TheVariants.{NoPlacing as no_placing}
 use Rattle.geometry.specs.Pass.{pass_verdict, written, work_after}
 
 -- "Work areas, lent by the caller: .. slide pass 30,000 of 16 bits, .. whatever the strip"
@@ -31,7 +32,7 @@ slide_checks s g lent = pass_verdict most_short s g (min (length lent.sides) (le
 -- "full and slide, at the end: 11 no placing exists", behind the checks 6, 12 and 7 to 10, by whether the strip slides
 abbrev pub slide_verdict : Verdict → Bool → Verdict
 slide_verdict (refused r) slides = refused r
-slide_verdict accepted false = refused NoPlacing
+slide_verdict accepted false = refused no_placing
 slide_verdict accepted true = accepted
 
 -- "no placing exists" at a gap of g dots, also at fractions of a dot: for no whole n from 1 are there sides and left edges in nth parts
@@ -60,7 +61,7 @@ pub record AnswersUnchanged (entry exit : SlideLent) : Type 0 where
 pub record SlideContract (s : Strip) (g : ℕ) (entry exit : SlideLent) (number : ℕ) : Type 0 where
   pub number_is : number ≡ number_of (slide_verdict (slide_checks s g entry) (slides_whole g (marks_of s)))
   -- past the checks, 11 speaks of every denominator
-  pub none-exactly : slide_checks s g entry ≡ accepted → (number ≡ refusal_number NoPlacing) ↔ NoPlacing g (marks_of s)
+  pub none-exactly : slide_checks s g entry ≡ accepted → (number ≡ refusal_number no_placing) ↔ NoPlacing g (marks_of s)
   pub where-placed : number ≡ 0 → Placed g (marks_of s) entry exit
   pub where-refused : (number ≡ 0 → ⊥) → AnswersUnchanged entry exit
   pub work-is : exit.work ≡ work_after work_named 0 (slide_checks s g entry) entry.work

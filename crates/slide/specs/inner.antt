@@ -4,3 +4,4 @@ pub mod Room
 pub mod Table
 pub mod Walk
 pub mod Answer
+pub mod Handed

@@ -2,157 +2,83 @@
 // greatest reach of the other side with which the marks after it can all be placed. A cell holds 0 for none, else one more than that
 // reach's dot. A side reaches as far as its last label and the gap behind it, so the gap is in every reach and in no test.
 ghost use Rattle.std.specs.Prelude.{◌≡◌, ◌||◌, ◌+◌, ◌≤◌, ◌<◌, ltb, eqb, length, get_or};
-ghost use Rattle.std.specs.Prelude.{length as list_length};
 ghost use Rattle.geometry.specs.Dot.{empty_reach};
 ghost use Rattle.geometry.specs.Pass.{most_gap};
-ghost use Rattle.geometry.specs.inner.Outside.{no_bound};
 ghost use Rattle.slide.specs.Slide.{work_named};
-ghost use Rattle.slide.specs.inner.Plain.{plain_mark, plain_marks, Checked};
-ghost use Rattle.slide.specs.inner.Room.{GoodLabel, slid_by, furthest, own_side_lem, other_side_lem};
-ghost use Rattle.slide.specs.inner.Table.{row_cells, RowsThere, row_from, FilledTo, row_before, RowReady, TableFrom};
+ghost use Rattle.slide.specs.inner.Handed.{mark_of, plain_of};
+ghost use Rattle.slide.specs.inner.Room.{furthest};
+ghost use Rattle.slide.specs.inner.Table.{cell_in, CellsAre, row_before, RowReady, TableFrom};
 
-use geometry::dot::{EMPTY_REACH, NO_BOUND, dot_of};
+use crate::mark::Mark;
+use crate::marks::Marks;
+use geometry::dot::{EMPTY_REACH, NO_BOUND};
 use geometry::limits::MOST_LENGTH;
-use geometry::numbers::larger;
 
 // Cells of a row: a label slides by 0 to MOST_LENGTH dots.
 pub const ROW_CELLS: usize = MOST_LENGTH as usize + 1;
 
-// How far a label slides from its leftmost place on a side with this reach.
-pub fn slid(place: u16, length: u8, reach: u16) -> u16
-    requires { length < place }
-    ensures { result ≡ slid_by (plain_mark place length) reach }
-{
-    let start = place - length as u16;
-    if reach <= start {
-        return 0;
-    }
-    reach - start
-}
-
 // One more than the greatest slide below `count` whose cell lies beyond the reach, or 0.
-fn furthest_slide(work: &[u16], row: usize, reach: u16, count: usize) -> usize
-    requires { row + count ≤ length work.now }
-    ensures { result ≡ furthest (row_from work.now row) reach count }
+fn furthest_slide(row: &[u16], reach: u16, count: usize) -> usize
+    requires { count ≤ length row.now }
+    ensures { result ≡ furthest (cell_in row.now) reach count }
 {
-    let mut d = count;
-    while 0 < d {
-        if reach < work[row + (d - 1)] {
-            return d;
+    for d in (0..count).rev() {
+        if reach < row[d] {
+            return d + 1;
         }
-        d -= 1;
     }
     0
 }
 
-// The cell of a label on the side of the reach, or 0 where the reach is beyond its mark.
-pub fn own_side(work: &[u16], row: usize, place: u16, length: u8, reach: u16) -> u16
-    requires { (length < place) × (row + length < list_length work.now) }
-    ensures { result ≡ own_side_lem (plain_mark place length) reach (row_from work.now row) }
-{
-    if place < reach {
-        return 0;
-    }
-    work[row + slid(place, length, reach) as usize]
-}
-
-// The bound where it lies on the other side and may slide by less than `slides` dots.
-fn other_side(place: u16, length: u8, slides: usize) -> u16
-    requires { GoodLabel (plain_mark place length) × (slides ≤ length + 1) }
-    ensures { result ≡ other_side_lem (plain_mark place length) slides }
-{
-    if slides == 0 {
-        return 0;
-    }
-    place - length as u16 + slides as u16
-}
-
-// The row of the last mark: whatever it does, the rest goes.
-fn fill_last(work: &mut [u16], row: usize, length: u8)
-    requires { RowsThere work.old row 1 × (length < row_cells) }
-    ensures { FilledTo work.old work.new row (length + 1) (λ d. no_bound) }
-{
-    let last = length as usize;
-    let mut i = 0;
-    while i <= last {
-        work[row + i] = NO_BOUND;
-        i += 1;
-    }
-}
-
-// The row of a mark from the row of the next one. The label that does not slide reaches least, and each dot further adds one. The bounds
+// The cells of a mark from the row of the next one. The label that does not slide reaches least, and each dot further adds one. The bounds
 // fall as the reach grows, so each scan goes on where the last one stopped.
-fn fill_row(
-    work: &mut [u16],
-    row: usize,
-    place: u16,
-    length: u8,
-    gap: u8,
-    next_place: u16,
-    next_length: u8,
-)
-    requires { RowsThere work.old row 2
-        × GoodLabel (plain_mark place length)
-        × (gap ≤ most_gap)
-        × GoodLabel (plain_mark next_place next_length) }
-    ensures { FilledTo work.old work.new row (length + 1)
-        (row_before gap (plain_mark place length) (plain_mark next_place next_length) (row_from work.old (row + row_cells))) }
+fn fill_cells(cells: &mut [u16], mark: Mark, gap: u8, next: Mark, next_row: &[u16])
+    requires count { length cells.old ≡ mark.length + 1 }
+    requires narrow { gap ≤ most_gap }
+    requires there { next.length < length next_row.now }
+    ensures { CellsAre cells.new (row_before gap (mark_of mark) (mark_of next) (cell_in next_row.now)) }
 {
-    let least_reach = place + gap as u16;
-    let next = row + ROW_CELLS;
-    let last = length as usize;
-    let mut slides = next_length as usize + 1;
-    let mut d = 0;
-    while d <= last {
+    let least_reach = mark.place + gap as u16;
+    let mut slides = next.length as usize + 1;
+    for (d, cell) in cells.iter_mut().enumerate() {
         let reach = least_reach + d as u16;
-        slides = furthest_slide(work, next, reach, slides);
-        let own = own_side(work, next, next_place, next_length, reach);
-        let other = other_side(next_place, next_length, slides);
-        work[row + d] = larger(own, other);
-        d += 1;
+        slides = furthest_slide(next_row, reach, slides);
+        let own = next.own_side(next_row, reach);
+        let other = next.other_side(slides);
+        *cell = own.max(other);
     }
 }
 
-// The row of mark k, from the rows of the marks after it.
-fn fill_mark(places: &[i16], lengths: &[u8], gap: u8, work: &mut [u16], k: usize)
-    requires { RowReady places.now lengths.now gap work.old k }
-    ensures { TableFrom gap work.old work.new k (plain_marks places.now lengths.now) }
+// The row of mark k, from the rows of the marks after it. Whatever the last mark does, the rest goes.
+fn fill_mark(marks: Marks, work: &mut [u16], k: usize)
+    requires { RowReady marks.places.now marks.lengths.now marks.gap work.old k }
+    ensures { TableFrom marks.entry.gap work.old work.new k (plain_of marks.entry) }
 {
+    let mark = marks.at(k);
     let row = k * ROW_CELLS;
-    if k + 1 == places.len() {
-        fill_last(work, row, lengths[k]);
+    let (filled, behind) = work.split_at_mut(row + ROW_CELLS);
+    let cells = &mut filled[row..row + mark.length as usize + 1];
+    if k + 1 == marks.places.len() {
+        cells.fill(NO_BOUND);
         return;
     }
-    fill_row(
-        work,
-        row,
-        dot_of(places[k]),
-        lengths[k],
-        gap,
-        dot_of(places[k + 1]),
-        lengths[k + 1],
-    );
+    fill_cells(cells, mark, marks.gap, marks.at(k + 1), behind);
 }
 
 // The rows of all marks, from the last to the first.
-pub fn fill(places: &[i16], lengths: &[u8], gap: u8, work: &mut [u16])
-    requires { (Checked places.now lengths.now gap) × (work_named ≤ length work.old) }
-    ensures { TableFrom gap work.old work.new 0 (plain_marks places.now lengths.now) }
+pub fn fill(marks: Marks, work: &mut [u16])
+    requires { work_named ≤ length work.old }
+    ensures { TableFrom marks.entry.gap work.old work.new 0 (plain_of marks.entry) }
 {
-    let mut k = places.len();
-    while 0 < k {
-        k -= 1;
-        fill_mark(places, lengths, gap, work, k);
+    for k in (0..marks.places.len()).rev() {
+        fill_mark(marks, work, k);
     }
 }
 
 // Whether the strip has a placing: both sides are empty at first, so the first mark's first cell decides.
-pub fn fits(places: &[i16], work: &[u16]) -> bool
+pub fn fits(marks: Marks, work: &[u16]) -> bool
     requires { 0 < length work.now }
-    ensures { result ≡ (eqb (length places.now) 0 || ltb empty_reach (get_or work.now 0 0)) }
+    ensures { result ≡ (eqb (length marks.entry.places.now) 0 || ltb empty_reach (get_or work.now 0 0)) }
 {
-    if places.len() == 0 {
-        return true;
-    }
-    EMPTY_REACH < work[0]
+    marks.places.is_empty() || EMPTY_REACH < work[0]
 }

@@ -1,98 +1,105 @@
 // The walk from the left, which takes at each mark the first side that the table allows.
-ghost use Rattle.std.specs.Prelude.{◌≡◌, ◌<◌};
-ghost use Rattle.geometry.specs.Sliding.{leftmost_edge};
+ghost use Rattle.std.specs.Prelude.{◌≡◌, ◌<◌, length};
+ghost use Rattle.geometry.specs.Position.{own_reach, above_after, below_after};
+ghost use Rattle.geometry.specs.inner.Positions.{side_of};
 ghost use Rattle.slide.specs.Slide.{slide_lent};
-ghost use Rattle.slide.specs.inner.Plain.{plain_mark};
-ghost use Rattle.slide.specs.inner.Table.{row_from};
-ghost use Rattle.slide.specs.inner.Walk.{takes_above, side_of, LabelOn, StepReady, WalkReady, Walked};
+ghost use Rattle.slide.specs.inner.Handed.{mark_of};
+ghost use Rattle.slide.specs.inner.Table.{cell_in};
+ghost use Rattle.slide.specs.inner.Walk.{takes_above, side_if, LabelOn, StepReady, WalkReady, Walked};
 
+use crate::mark::Mark;
+use crate::marks::Marks;
 use crate::table;
-use geometry::dot::{EMPTY_REACH, dot_of, place_of};
+use geometry::dot::{EMPTY_REACH, place_of};
+use geometry::position::Side;
 
-// A label's side and left edge, as a dot, and the two reaches after it: its own side reaches to its right end and the gap behind it.
+// How far the labels of each side reach, with the gap behind the last one.
+#[derive(Clone, Copy)]
+struct Reaches {
+    above: u16,
+    below: u16,
+}
+
+impl Reaches {
+    fn on(self, side: Side) -> u16
+        ensures { result ≡ own_reach (side_of side) self.above self.below }
+    {
+        match side {
+            Side::Above => self.above,
+            Side::Below => self.below,
+        }
+    }
+
+    // The reaches after a label on a side.
+    fn after(self, side: Side, reach: u16) -> Reaches
+        ensures above { result.above ≡ above_after (side_of side) reach self.above }
+        ensures below { result.below ≡ below_after (side_of side) reach self.below }
+    {
+        match side {
+            Side::Above => Reaches {
+                above: reach,
+                below: self.below,
+            },
+            Side::Below => Reaches {
+                above: self.above,
+                below: reach,
+            },
+        }
+    }
+}
+
+// A label's side and left edge, as a dot, and the reaches after it: its own side reaches to its right end and the gap behind it.
 #[derive(Clone, Copy)]
 struct Label {
-    side: u8,
+    side: Side,
     edge: u16,
-    above: u16,
-    below: u16,
+    after: Reaches,
 }
 
-// The left edge of a label as far left as it goes.
-fn leftmost(place: u16, length: u8, reach: u16) -> u16
-    requires { length < place }
-    ensures { result ≡ leftmost_edge (plain_mark place length) reach }
+// The side of the next label of the walk: above if its edge is not beyond its mark and the rest goes with the reach below, else below.
+fn next_side(row: &[u16], mark: Mark, reaches: Reaches) -> Side
+    requires { mark.length < length row.now }
+    ensures { side_of result ≡ side_if (takes_above reaches.above reaches.below (mark_of mark) (cell_in row.now)) }
 {
-    place - length as u16 + table::slid(place, length, reach)
-}
-
-// The next label of the walk: above if its edge is not beyond its mark and the rest goes with the reach below, else below. From its left
-// edge on, its length and the gap are taken on its side.
-fn place_label(
-    work: &[u16],
-    row: usize,
-    place: u16,
-    length: u8,
-    gap: u8,
-    above: u16,
-    below: u16,
-) -> Label
-    requires { StepReady work.now row (plain_mark place length) gap above below }
-    ensures { LabelOn gap (side_of (takes_above above below (plain_mark place length) (row_from work.now row)))
-        (plain_mark place length) above below result.side result.edge result.above result.below }
-{
-    let length_with_gap = length as u16 + gap as u16;
-    if below < table::own_side(work, row, place, length, above) {
-        let edge = leftmost(place, length, above);
-        let reach = edge + length_with_gap;
-        return Label {
-            side: 0,
-            edge,
-            above: reach,
-            below,
-        };
+    if reaches.below < mark.own_side(row, reaches.above) {
+        Side::Above
+    } else {
+        Side::Below
     }
-    let edge = leftmost(place, length, below);
-    let reach = edge + length_with_gap;
+}
+
+// The next label of the walk. From its left edge on, its length and the gap are taken on its side.
+fn place_label(row: &[u16], mark: Mark, gap: u8, reaches: Reaches) -> Label
+    requires { StepReady row.now (mark_of mark) gap reaches.above reaches.below }
+    ensures { LabelOn gap (side_if (takes_above reaches.above reaches.below (mark_of mark) (cell_in row.now)))
+        (mark_of mark) reaches.above reaches.below (side_of result.side) result.edge result.after.above result.after.below }
+{
+    let side = next_side(row, mark, reaches);
+    let edge = mark.leftmost(reaches.on(side));
+    let reach = edge + (mark.length as u16 + gap as u16);
     Label {
-        side: 1,
+        side,
         edge,
-        above,
-        below: reach,
+        after: reaches.after(side, reach),
     }
 }
 
 // Sides and left edges for all marks of a strip that has a placing.
-pub fn walk(
-    places: &[i16],
-    lengths: &[u8],
-    gap: u8,
-    work: &[u16],
-    sides: &mut [u8],
-    edges: &mut [i16],
-)
-    requires { WalkReady places.now lengths.now gap (slide_lent sides.old edges.old work.now) }
-    ensures { Walked places.now lengths.now gap
+pub fn walk(marks: Marks, work: &[u16], sides: &mut [u8], edges: &mut [i16])
+    requires { WalkReady marks.places.now marks.lengths.now marks.gap (slide_lent sides.old edges.old work.now) }
+    ensures { Walked marks.entry.places.now marks.entry.lengths.now marks.entry.gap
         (slide_lent sides.old edges.old work.now)
         (slide_lent sides.new edges.new work.now) }
 {
-    let mut above = EMPTY_REACH;
-    let mut below = EMPTY_REACH;
-    let mut i = 0;
-    while i < places.len() {
-        let label = place_label(
-            work,
-            i * table::ROW_CELLS,
-            dot_of(places[i]),
-            lengths[i],
-            gap,
-            above,
-            below,
-        );
-        sides[i] = label.side;
+    let mut reaches = Reaches {
+        above: EMPTY_REACH,
+        below: EMPTY_REACH,
+    };
+    for i in 0..marks.places.len() {
+        let row = &work[i * table::ROW_CELLS..];
+        let label = place_label(row, marks.at(i), marks.gap, reaches);
+        sides[i] = u8::from(label.side);
         edges[i] = place_of(label.edge);
-        above = label.above;
-        below = label.below;
-        i += 1;
+        reaches = label.after;
     }
 }

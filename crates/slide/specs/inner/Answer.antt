@@ -3,12 +3,10 @@ use Rattle.std.specs.Prelude.{◌≡◌, List, ℕ, ◌≤◌, ℤ, length}
 use Rattle.geometry.specs.Pass.{cleared}
 use Rattle.geometry.specs.Refusal.{accepted, number_of}
 use Rattle.slide.specs.Slide.{SlideLent, AnswersUnchanged, slide_verdict, work_named}
-use Rattle.slide.specs.inner.Plain.{Checked}
 use Rattle.slide.specs.inner.Walk.{fits_plain, Walked}
 
--- what it asks of the lists and the gap
-pub record AnswerReady (places : List ℤ) (lengths : List ℕ) (g : ℕ) (lent : SlideLent) : Type 0 where
-  pub checked : Checked places lengths g
+-- what it asks of the lent lists
+pub record AnswerReady (places : List ℤ) (lent : SlideLent) : Type 0 where
   pub sides-long : length places ≤ length lent.sides
   pub edges-long : length places ≤ length lent.edges
   pub work-long : work_named ≤ length lent.work
