@@ -16,7 +16,7 @@ use Rattle.geometry.specs.inner.At.{mark_at}
 use Rattle.geometry.specs.inner.Machine.{next_above, next_below}
 use Rattle.geometry.proofs.Split.{by_bool}
 use Rattle.geometry.proofs.Accepted.{marks-from}
-use Rattle.best.specs.inner.Positions.{lies_on, direction_at}
+use Rattle.geometry.specs.inner.Positions.{lies_on_lem, direction_at}
 use Rattle.best.specs.inner.Worth.{earned_by, worth}
 use Rattle.best.specs.inner.Names.{names, name_of, last_after, reach_at}
 use Rattle.best.specs.inner.Checked.{Checked}
@@ -35,7 +35,7 @@ name-number k rightward = omega arith
 
 -- a side's last label after mark k, from what holds of the name of a label of k and of the last label before
 by_last : (s : Side) (k : ℕ) (p : Position) (last : ℕ) (P : ℕ → Type 0) → P (name_of k (direction_at p)) → P last → P (last_after s k p last)
-by_last s k p last P h g = by_bool (lies_on s p) (λ t. P (cond t (name_of k (direction_at p)) last)) (λ _. h) (λ _. g)
+by_last s k p last P h g = by_bool (lies_on_lem s p) (λ t. P (cond t (name_of k (direction_at p)) last)) (λ _. h) (λ _. g)
 
 module _ (s : Side) (k last : ℕ) (p : Position) where
   -- it is one of the names

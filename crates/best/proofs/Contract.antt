@@ -1,18 +1,16 @@
 -- The best pass meets its contract.
--- A number that is not 0 is that of the first check that is not passed, and nothing has been touched. Number 0 says that checks 6 to 10
--- and 12 are passed, so the places rise; then the walk's choice is overlap-free and earns the best sum, and the zeros among the position
--- numbers, heaviest first, are its left-out list.
-use mathlib.Core.Path.{◌≡◌, refl, sym, ◌∙◌, ap}
+-- Where the checks on entry are passed the places rise; so the walk's choice is overlap-free and earns the best sum, and the zeros among
+-- the position numbers, heaviest first, are its left-out list.
+use mathlib.Core.Path.{◌≡◌, sym, ◌∙◌, ap}
 use mathlib.Core.List.{List, map}
 use Prim.Native.Nat.{ℕ, ◌≤◌, min}
 use native.Mathlib.Omega.{arith}
 use lib.ListN.{length, take, length-map}
 use Rattle.geometry.specs.Strip.{Strip, marks_of, most_short}
-use Rattle.geometry.specs.Pass.{pass_verdict, written}
+use Rattle.geometry.specs.Pass.{written}
 use Rattle.geometry.specs.Position.{code}
 use Rattle.geometry.specs.Refusal.{accepted, number_of}
 use Rattle.geometry.proofs.Accepted.{PassAccepted, pass-accepted, accepted-rising, length-marks}
-use Rattle.geometry.proofs.Verdicts.{zero-accepted}
 use Rattle.geometry.proofs.Lent.{used-is}
 use Rattle.best.specs.Best.{work_named, BestLent, best_checks, BestContract}
 use Rattle.best.specs.LeftOut.{by_falling_weight, left_out_lem}
@@ -22,35 +20,14 @@ use Rattle.best.specs.inner.Insertion.{zeros_by_weight}
 use Rattle.best.proofs.WorthIsBest.{best-free, best-earns, best-length, worth-best}
 use Rattle.best.proofs.Zeros.{zeros-are-left-out}
 
-module _ (s : Strip) (g : ℕ) (entry : BestLent) (n : ℕ) where
-  -- the number, where the shorter answer list has been found
-  pub number-found : (shortest : ℕ) → shortest ≡ min (length entry.positions) (length entry.left_out)
-      → n ≡ number_of (pass_verdict most_short s g shortest work_named (length entry.work)) → n ≡ number_of (best_checks s g entry)
-  number-found shortest e h = h ∙ ap (λ (l : ℕ). number_of (pass_verdict most_short s g l work_named (length entry.work))) e
-
-  -- refused: the number is that of the checks, and all else is 0 or unchanged
-  pub answer-refused : n ≡ number_of (best_checks s g entry) → (n ≡ 0 → ⊥)
-      → BestContract s g entry entry (record { number = n; sum = 0; count = 0 })
-  answer-refused e no_zero =
-      record {
-        number_is = e;
-        where-refused = λ _.
-            record { sum-zero = refl; count-zero = refl; positions-unchanged = refl; left-out-unchanged = refl; work-unchanged = refl };
-        where-accepted = λ a. absurd (no_zero (e ∙ ap number_of a));
-      }
-
-  -- number 0 is acceptance
-  pub zero-passes : n ≡ number_of (best_checks s g entry) → n ≡ 0 → best_checks s g entry ≡ accepted
-  zero-passes e z = zero-accepted (best_checks s g entry) (sym e ∙ z)
-
-module _ (s : Strip) (g : ℕ) (entry : BestLent) (ok : best_checks s g entry ≡ accepted) where
+module _ (s : Strip) (g : ℕ) (entry : BestLent) (passes : accepted ≡ best_checks s g entry) where
   -- the shorter answer list
   abbrev shorter : ℕ
   shorter = min (length entry.positions) (length entry.left_out)
 
   -- what the checks bring: a strip that is accepted, a narrow gap, answer lists and a work area that are long enough
   passed : PassAccepted most_short s g shorter work_named (length entry.work)
-  passed = pass-accepted most_short s g shorter work_named (length entry.work) ok
+  passed = pass-accepted most_short s g shorter work_named (length entry.work) (sym passes)
 
   -- in the form in which the pass asks for it
   pub accepted-checked : CheckedAt g s entry.work
@@ -92,8 +69,8 @@ module _ (s : Strip) (g : ℕ) (entry : BestLent) (ok : best_checks s g entry �
       let out : zeros_by_weight s.weights (take (length s.weights) exit.positions) ≡ left_out_lem s.weights (whole_choice g s) =
       ap (zeros_by_weight s.weights) used ∙ ap (by_falling_weight s.weights) (zeros-are-left-out 1 (whole_choice g s)) in
       record {
-        number_is = sym (ap number_of ok);
-        where-refused = λ no. absurd (no ok);
+        number_is = ap number_of passes;
+        where-refused = λ no. absurd (no (sym passes));
         where-accepted = λ _.
             record {
               choice = whole_choice g s;

@@ -8,7 +8,7 @@ use Rattle.geometry.specs.Mark.{Mark}
 use Rattle.geometry.specs.Position.{Side, above, below, Direction, leftward, rightward, Position, unlabelled, at}
 use Rattle.geometry.specs.Overlap.{left_end}
 use Rattle.geometry.specs.inner.Machine.{room_for}
-use Rattle.best.specs.inner.Positions.{lies_on, direction_at, points_left}
+use Rattle.geometry.specs.inner.Positions.{lies_on_lem, direction_at, points_left}
 use Rattle.best.specs.inner.Names.{name_of, last_after}
 
 -- the answer of a function is that of its definition
@@ -26,22 +26,22 @@ rightward-told rightward e = refl
 
 -- room for a label is room beside the reach of its own side
 module _ (a b : ℕ) (m : Mark) where
-  pub room-above : (p : Position) → lies_on above p ≡ true → leb a (left_end m (direction_at p)) ≡ room_for a b m p
+  pub room-above : (p : Position) → lies_on_lem above p ≡ true → leb a (left_end m (direction_at p)) ≡ room_for a b m p
   room-above unlabelled e = absurd (false≢true e)
   room-above (at above d) e = refl
   room-above (at below d) e = absurd (false≢true e)
 
-  pub room-below : (p : Position) → lies_on below p ≡ true → leb b (left_end m (direction_at p)) ≡ room_for a b m p
+  pub room-below : (p : Position) → lies_on_lem below p ≡ true → leb b (left_end m (direction_at p)) ≡ room_for a b m p
   room-below unlabelled e = absurd (false≢true e)
   room-below (at above d) e = absurd (false≢true e)
   room-below (at below d) e = refl
 
-  pub room-without-label : (p : Position) → lies_on above p ≡ false → lies_on below p ≡ false → true ≡ room_for a b m p
+  pub room-without-label : (p : Position) → lies_on_lem above p ≡ false → lies_on_lem below p ≡ false → true ≡ room_for a b m p
   room-without-label unlabelled e f = refl
   room-without-label (at above d) e f = absurd (true≢false e)
   room-without-label (at below d) e f = absurd (true≢false f)
 
 -- the last label of a side, once the test has told whether the position lies on it
-pub last-told : (s : Side) (k last : ℕ) (p : Position) {on : Bool} {r : ℕ} → on ≡ lies_on s p → r ≡ cond on (name_of k (direction_at p)) last
+pub last-told : (s : Side) (k last : ℕ) (p : Position) {on : Bool} {r : ℕ} → on ≡ lies_on_lem s p → r ≡ cond on (name_of k (direction_at p)) last
     → r ≡ last_after s k p last
 last-told s k last p e h = h ∙ ap (λ (t : Bool). cond t (name_of k (direction_at p)) last) e

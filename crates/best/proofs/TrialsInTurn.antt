@@ -2,49 +2,46 @@
 -- each trial takes the first position from what is left, and at the end nothing is left.
 use mathlib.Core.Path.{◌≡◌, refl, sym, ◌∙◌, ap}
 use mathlib.Core.Bool.{Bool, true, false}
-use Prim.Native.Nat.{ℕ, zero, suc, ◌+◌, ◌≤◌, ◌<◌}
-use native.Mathlib.Omega.{arith}
+use mathlib.Core.List.{List, [], ◌∷◌}
+use Prim.Native.Nat.{ℕ, ◌+◌, ◌≤◌, ◌<◌}
 use native.Mathlib.Numerals.{add-one}
 use lib.ListN.{length, get_or, drop, drop_of_length-le}
 use lib.Seq.{drop-cons}
+use Rattle.std.proofs.Math.ListN.{get_or-map}
 use Rattle.geometry.specs.Lists.{first_of}
-use Rattle.geometry.specs.Position.{Position, unlabelled, ranked, every_position}
+use Rattle.geometry.specs.Position.{Position, unlabelled, ranked}
+use Rattle.geometry.specs.declared.position.Position as coded
+use Rattle.geometry.specs.declared.position.Position.TheVariants.{Unlabelled, AboveRight, AboveLeft, BelowLeft, BelowRight}
+use Rattle.geometry.specs.inner.Positions.{position_of}
 use Rattle.best.specs.inner.Worth.{or_unlabelled}
 
--- an index that is none of 1 to 4 is that of no label: the list of all positions is none, 2, 3, 1, 4
-pub no-further : (i : ℕ) → (i ≡ 1 → ⊥) → (i ≡ 2 → ⊥) → (i ≡ 3 → ⊥) → (i ≡ 4 → ⊥)
-    → unlabelled ≡ get_or every_position i unlabelled
-no-further zero a b c d = refl
-no-further (suc zero) a b c d = absurd (a refl)
-no-further (suc (suc zero)) a b c d = absurd (b refl)
-no-further (suc (suc (suc zero))) a b c d = absurd (c refl)
-no-further (suc (suc (suc (suc zero)))) a b c d = absurd (d refl)
-no-further (suc (suc (suc (suc (suc i))))) a b c d = refl
+-- the labels as the program lists them
+abbrev listed : List coded.Position
+listed = AboveLeft ∷ BelowLeft ∷ AboveRight ∷ BelowRight ∷ []
 
--- the first label that passes is not among the first i positions
-pub record PassedOver (test : Position → Bool) (i : ℕ) : Type 0 where
-  pub within : i ≤ length every_position
-  pub in_rest : first_of test ranked ≡ first_of test (drop i every_position)
+-- the label with index i
+abbrev tried : ℕ → Position
+tried i = position_of (get_or listed i Unlabelled)
 
-module _ (test : Position → Bool) where
-  -- the first position is none, which is no label
-  pub trial-starts : PassedOver test 1
-  trial-starts = record { within = omega arith; in_rest = refl }
+tried-ranked : (i : ℕ) → get_or ranked i unlabelled ≡ tried i
+tried-ranked i = get_or-map position_of listed i Unlabelled
 
-  module _ (i : ℕ) (p : Position) (so_far : PassedOver test i) (h : i < length every_position) (e : p ≡ get_or every_position i unlabelled) where
+-- the first label that passes is not among the first i
+abbrev pub PassedOver : (Position → Bool) → ℕ → Type 0
+PassedOver test i = first_of test ranked ≡ first_of test (drop i ranked)
+
+module _ (test : Position → Bool) (i : ℕ) (so_far : PassedOver test i) where
+  module _ (h : i < length ranked) where
     -- a label that does not pass is passed over; one that does is the first
-    pub pass-over : test p ≡ false → PassedOver test (i + 1)
+    pub pass-over : test (tried i) ≡ false → PassedOver test (i + 1)
     unfolding first_of
-    pass-over f =
-        let step : first_of test (drop i every_position) ≡ first_of test (drop (i + 1) every_position) =
-        rw (drop-cons every_position i unlabelled h, sym e, f, add-one i) refl in
-        record { within = omega arith; in_rest = so_far.in_rest ∙ step }
+    pass-over f = so_far ∙ rw (drop-cons ranked i unlabelled h, tried-ranked i, f, add-one i) refl
 
-    pub first_found : test p ≡ true → p ≡ or_unlabelled (first_of test ranked)
+    pub first_found : test (tried i) ≡ true → tried i ≡ or_unlabelled (first_of test ranked)
     unfolding first_of
-    first_found t = sym (ap or_unlabelled so_far.in_rest ∙ rw (drop-cons every_position i unlabelled h, sym e, t) refl)
+    first_found t = sym (ap or_unlabelled so_far ∙ rw (drop-cons ranked i unlabelled h, tried-ranked i, t) refl)
 
   -- no label passes
-  pub none_found : (i : ℕ) → PassedOver test i → length every_position ≤ i → unlabelled ≡ or_unlabelled (first_of test ranked)
+  pub none_found : length ranked ≤ i → unlabelled ≡ or_unlabelled (first_of test ranked)
   unfolding first_of
-  none_found i so_far h = sym (ap or_unlabelled so_far.in_rest ∙ rw (drop_of_length-le every_position {i = i} h) refl)
+  none_found h = sym (ap or_unlabelled so_far ∙ rw (drop_of_length-le ranked {i = i} h) refl)

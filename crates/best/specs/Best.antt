@@ -3,19 +3,31 @@
 -- mark number" (document 02, P1). (Weighted Max-1d-4P, with a witness.) The pass takes a short strip: 0 to 60 marks; and "the passes
 -- take a gap, 0 to 8 dots. Two labels on one side overlap if their spans share more than an end point, or if fewer than that many dots
 -- lie between their nearer ends. Gap 0 is the old meaning." (document 02, P2)
-use Rattle.std.specs.Prelude.{◌≡◌, List, map, true, ℕ, min, length}
+use Rattle.std.specs.Prelude.{◌≡◌, List, map, true, ℕ, min, length, Result, Ok, Err}
 use Rattle.geometry.specs.Strip.{Strip, marks_of, most_short}
 use Rattle.geometry.specs.Position.{Position, code}
 use Rattle.geometry.specs.Overlap.{free}
 use Rattle.geometry.specs.Placing.{sum_of, best_sum}
 use Rattle.geometry.specs.Pass.{pass_verdict, written, cleared}
-use Rattle.geometry.specs.Refusal.{Verdict, accepted, number_of}
-use Rattle.best.specs.declared.answer.Best.{Best}
+use Rattle.geometry.specs.Refusal.{Verdict, accepted, refusal_number, number_of}
+use Rattle.geometry.specs.declared.refusal.Refusal.{Refusal}
+use Rattle.best.specs.declared.choice.Choice.{Choice}
 use Rattle.best.specs.LeftOut.{left_out_lem}
 
 -- "Work areas, lent by the caller: [..] best pass 15,000 of 32 bits, whatever the strip."
 abbrev pub work_named : ℕ
 work_named = 15000
+
+-- "Best: the sum, [..] the list of left-out mark numbers and its length", with the number of the answer
+pub record BestAnswer : Type 0 where
+  pub number : ℕ
+  pub sum : ℕ
+  pub count : ℕ
+
+-- what an answer of the call says of it
+abbrev pub best_answer : Result Choice Refusal → BestAnswer
+best_answer (Ok choice) = record { number = 0; sum = choice.sum; count = choice.count }
+best_answer (Err r) = record { number = refusal_number r; sum = 0; count = 0 }
 
 -- the three lent lists, at entry or at exit
 pub record BestLent : Type 0 where
@@ -32,14 +44,14 @@ best_checks s g entry =
     pass_verdict most_short s g (min (length entry.positions) (length entry.left_out)) work_named (length entry.work)
 
 -- "Every refusal gives its number, with sum, count and length 0, and changes no lent memory"
-pub record RefusedAnswer (entry exit : BestLent) (r : Best) : Type 0 where
+pub record RefusedAnswer (entry exit : BestLent) (r : BestAnswer) : Type 0 where
   pub sum-zero : r.sum ≡ 0
   pub count-zero : r.count ≡ 0
   pub positions-unchanged : exit.positions ≡ entry.positions
   pub left-out-unchanged : exit.left_out ≡ entry.left_out
   pub work-unchanged : exit.work ≡ entry.work
 
-pub record AcceptedAnswer (s : Strip) (g : ℕ) (entry exit : BestLent) (r : Best) : Type 0 where
+pub record AcceptedAnswer (s : Strip) (g : ℕ) (entry exit : BestLent) (r : BestAnswer) : Type 0 where
   -- "What the best pass lists is the choice in the used part of its position list." Which one among equal sums is open.
   pub choice : List Position
   pub positions-written : exit.positions ≡ written (map code choice) entry.positions
@@ -55,7 +67,7 @@ pub record AcceptedAnswer (s : Strip) (g : ℕ) (entry exit : BestLent) (r : Bes
   pub work-cleared : exit.work ≡ cleared work_named 0 entry.work
 
 -- The contract: the strip, the gap, the lent lists at entry and at exit, and what is handed back.
-pub record BestContract (s : Strip) (g : ℕ) (entry exit : BestLent) (r : Best) : Type 0 where
+pub record BestContract (s : Strip) (g : ℕ) (entry exit : BestLent) (r : BestAnswer) : Type 0 where
   pub number_is : r.number ≡ number_of (best_checks s g entry)
   pub where-refused : (best_checks s g entry ≡ accepted → ⊥) → RefusedAnswer entry exit r
   pub where-accepted : best_checks s g entry ≡ accepted → AcceptedAnswer s g entry exit r

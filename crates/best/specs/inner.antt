@@ -1,5 +1,4 @@
 -- Definitions that no public contract names.
-pub mod Positions
 pub mod Worth
 pub mod Names
 pub mod Checked

@@ -1,30 +1,46 @@
 // The best pass: labels in four positions for marks that may go without one, with the greatest sum of weights.
 #![tactic(auto)]
 
-pub mod answer;
+pub mod choice;
 mod left_out;
 mod name;
-mod position;
 mod room;
 mod row;
 mod table;
 mod walk;
-mod work;
 
-ghost use Rattle.std.specs.Prelude.{◌≤◌, length};
-ghost use Rattle.geometry.specs.Strip.{strip};
-ghost use Rattle.best.specs.Best.{BestContract, best_lent};
+ghost use Rattle.std.specs.Prelude.{◌≡◌, ◌≤◌, length};
+ghost use Rattle.geometry.specs.Refusal.{verdict_of};
+ghost use Rattle.geometry.specs.Strip.{strip, lists_of};
+ghost use Rattle.best.specs.Best.{BestContract, best_lent, best_checks, best_answer};
 ghost use Rattle.best.specs.inner.Names.{Reaches};
 ghost use Rattle.best.specs.inner.Checked.{CheckedAt, Labelled};
 
-use answer::Best;
+use choice::Choice;
 use geometry::entry::check_pass;
 use geometry::limits::MOST_SHORT;
-use geometry::numbers::smaller;
+use geometry::refusal::Refusal;
+use geometry::strip::Strip;
 use name::NAMES;
 
 // How many numbers of the work area document 01 names.
 pub const WORK_NAMED: usize = 15000;
+
+// The checks on entry. The shorter of the two answer lists is the one that 9 is about.
+fn check_entry(
+    strip: Strip,
+    gap: u8,
+    positions: &[u8],
+    left_out: &[u16],
+    work: &[u32],
+) -> Result<(), Refusal>
+    ensures { verdict_of result ≡ best_checks
+        (lists_of strip.entry) gap
+        (best_lent positions.now left_out.now work.now) }
+{
+    let shortest = positions.len().min(left_out.len());
+    check_pass(strip, gap, MOST_SHORT, shortest, WORK_NAMED, work.len())
+}
 
 // The positions and their sum, by the table and the walk; leaves zeros in the work area. The table looks reaches up in the list; the walk,
 // which needs few, finds them by the gap.
@@ -47,7 +63,7 @@ fn fill_and_walk(
     table::fill(places, lengths, weights, reaches, work);
     walk::place_labels(places, lengths, weights, gap, positions, work);
     let sum = work[0];
-    work::clear(work);
+    table::clear(work);
     sum
 }
 
@@ -79,42 +95,26 @@ fn label_marks(
 // takes n(n + 1) / 2, as a mark may go before all that are listed. At 60 marks that is
 // 5 · 295,240 + 2 · 3,660 + 240 + 2 · 15,000 + 122 + 2 · 240 + 1,830 = 1,516,192.
 pub fn best(
-    places: &[i16],
-    lengths: &[u8],
-    weights: &[u16],
+    strip: Strip,
     gap: u8,
     positions: &mut [u8],
     left_out: &mut [u16],
     work: &mut [u32],
-) -> Best
+) -> Result<Choice, Refusal>
     ensures { BestContract
-        (strip places.now lengths.now weights.now) gap
+        (lists_of strip.entry) gap
         (best_lent positions.old left_out.old work.old)
-        (best_lent positions.new left_out.new work.new) result }
+        (best_lent positions.new left_out.new work.new) (best_answer result) }
 {
-    let shortest = smaller(positions.len(), left_out.len());
-    let number = check_pass(
-        places,
-        lengths,
-        weights,
+    check_entry(strip, gap, positions, left_out, work)?;
+    let sum = label_marks(
+        strip.places,
+        strip.lengths,
+        strip.weights,
         gap,
-        MOST_SHORT,
-        shortest,
-        WORK_NAMED,
-        work.len(),
+        positions,
+        work,
     );
-    if number != 0 {
-        return Best {
-            number,
-            sum: 0,
-            count: 0,
-        };
-    }
-    let sum = label_marks(places, lengths, weights, gap, positions, work);
-    let count = left_out::list(weights, positions, left_out);
-    Best {
-        number: 0,
-        sum,
-        count,
-    }
+    let count = left_out::list(strip.weights, positions, left_out);
+    Ok(Choice { sum, count })
 }

@@ -2,13 +2,13 @@
 // more if it lies to the right of the mark. 0 and 1 name no label.
 ghost use Rattle.std.specs.Prelude.{◌≡◌, cond, ◌≤◌, ◌<◌, length};
 ghost use Rattle.geometry.specs.Strip.{most_short};
-ghost use Rattle.best.specs.inner.Positions.{position_of, direction_at};
+ghost use Rattle.geometry.specs.inner.Positions.{position_of, direction_at};
 ghost use Rattle.best.specs.inner.Names.{names_before, name_of, reach_named, Known, Reaches};
 
-use crate::position::{Position, is_leftward};
 use geometry::dot::dot_of;
 use geometry::limits::MOST_SHORT;
 use geometry::outside::EMPTY_REACH;
+use geometry::position::Position;
 
 // How many names there are for a side's last label: two for none, and two for each mark.
 pub const NAMES: usize = 2 * MOST_SHORT + 2;
@@ -18,7 +18,7 @@ fn name_of(k: usize, p: Position) -> usize
     requires { k < most_short }
     ensures { result ≡ name_of k (direction_at (position_of p)) }
 {
-    if is_leftward(p) {
+    if p.is_leftward() {
         return 2 * k + 2;
     }
     2 * k + 3

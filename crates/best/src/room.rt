@@ -2,20 +2,20 @@
 ghost use Rattle.std.specs.Prelude.{[], ◌≡◌, ◌≤◌, leb};
 ghost use Rattle.geometry.specs.Strip.{strip};
 ghost use Rattle.geometry.specs.Overlap.{left_end};
-ghost use Rattle.best.specs.inner.Positions.{position_of, direction_at};
+ghost use Rattle.geometry.specs.inner.Positions.{position_of, direction_at};
 ghost use Rattle.best.specs.inner.Names.{label_of};
 ghost use Rattle.best.specs.inner.Trial.{RoomAsked, room_at};
 
 use crate::name::reach_of;
-use crate::position::{Position, is_above, is_below, is_leftward};
 use geometry::dot::dot_of;
+use geometry::position::{Position, Side};
 
 // Where the label of a mark at p begins; places are dots here.
 fn begin_of(place: u16, length: u16, p: Position) -> u16
     requires { length ≤ place }
     ensures { result ≡ left_end (label_of place length) (direction_at (position_of p)) }
 {
-    if is_leftward(p) {
+    if p.is_leftward() {
         return place - length;
     }
     place
@@ -45,10 +45,10 @@ pub fn has_room(
     ensures { result ≡ room_at gap (strip places.now lengths.now []) k above below (position_of p) }
 {
     let begin = begin_of(dot_of(places[k]), lengths[k] as u16, p);
-    if is_above(p) {
+    if p.lies_on(Side::Above) {
         return is_clear(reach_of(places, lengths, gap, above), begin);
     }
-    if is_below(p) {
+    if p.lies_on(Side::Below) {
         return is_clear(reach_of(places, lengths, gap, below), begin);
     }
     true

@@ -1,8 +1,9 @@
 // The table: for each pair of last labels, one above and one below, the most that the marks after them can still earn.
-ghost use Rattle.std.specs.Prelude.{◌≡◌, suc, ◌*◌, ◌<◌, length, get_or, set, drop};
+ghost use Rattle.std.specs.Prelude.{◌≡◌, suc, ◌*◌, ◌<◌, ◌≤◌, length, get_or, set, drop};
 ghost use Rattle.geometry.specs.Strip.{strip};
+ghost use Rattle.geometry.specs.Pass.{cleared};
 ghost use Rattle.best.specs.Best.{work_named};
-ghost use Rattle.best.specs.inner.Positions.{position_of};
+ghost use Rattle.geometry.specs.inner.Positions.{position_of};
 ghost use Rattle.best.specs.inner.Worth.{earned_by};
 ghost use Rattle.best.specs.inner.Names.{names, names_before, AtEveryGap};
 ghost use Rattle.best.specs.inner.Checked.{Ready};
@@ -10,18 +11,18 @@ ghost use Rattle.best.specs.inner.Table.{cell_of, Filled, Renewing, Renewed};
 ghost use Rattle.best.specs.inner.Trial.{GainAsked, gain_at};
 ghost use Rattle.best.specs.inner.Row.{RowAsked, RowOf, CellAsked, cell_by};
 
+use crate::WORK_NAMED;
 use crate::name::{NAMES, last_after};
-use crate::position::{Position, is_above, is_below, is_labelled};
 use crate::row::{Row, cell};
-use crate::work;
 use geometry::dot::dot_of;
+use geometry::position::{Position, Side};
 
 // What mark k, counted from 0, earns at p.
 pub fn earned(weights: &[u16], k: usize, p: Position) -> u16
     requires { k < length weights.now }
     ensures { result ≡ earned_by (get_or weights.now k 0) (position_of p) }
 {
-    if is_labelled(p) {
+    if p.is_labelled() {
         return weights[k];
     }
     0
@@ -32,8 +33,8 @@ pub fn gain(weights: &[u16], work: &[u32], k: usize, p: Position, above: usize, 
     requires { GainAsked weights.now work.now k above below }
     ensures { result ≡ gain_at weights.now work.now k above below (position_of p) }
 {
-    let x = last_after(is_above(p), k, p, above);
-    let y = last_after(is_below(p), k, p, below);
+    let x = last_after(p.lies_on(Side::Above), k, p, above);
+    let y = last_after(p.lies_on(Side::Below), k, p, below);
     earned(weights, k, p) as u32 + work[x * NAMES + y]
 }
 
@@ -125,6 +126,14 @@ fn renew(
     }
 }
 
+// Puts zeros into the whole table, which is the named part of the work area.
+pub fn clear(work: &mut [u32])
+    requires { work_named ≤ length work.old }
+    ensures { work.new ≡ cleared work_named 0 work.old }
+{
+    work[..WORK_NAMED].fill(0);
+}
+
 // The table, from the last mark to the first.
 pub fn fill(places: &[i16], lengths: &[u8], weights: &[u16], reaches: &[u16], work: &mut [u32])
     requires { Ready (strip places.now lengths.now weights.now) reaches.now work.old }
@@ -132,7 +141,7 @@ pub fn fill(places: &[i16], lengths: &[u8], weights: &[u16], reaches: &[u16], wo
         (λ g. Filled g (strip places.now lengths.now weights.now) 0 work.new) }
     ensures rest_kept { drop work_named work.new ≡ drop work_named work.old }
 {
-    work::clear(work);
+    clear(work);
     let mut k = places.len();
     while 0 < k {
         k -= 1;

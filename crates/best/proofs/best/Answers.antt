@@ -1,31 +1,22 @@
 -- `best::best` meets its contract: the first check that is not passed decides, and else the parts give what it says.
 use native.Mathlib.Omega.{arith}
-use Rattle.geometry.specs.Strip.{strip}
+use Rattle.geometry.specs.Strip.{lists_of}
 use Rattle.best.specs.Best.{best_lent}
-use Rattle.best.proofs.Contract.{number-found, answer-refused, zero-passes, accepted-checked, lists-enough, answer-accepted}
+use Rattle.best.proofs.Contract.{accepted-checked, lists-enough, answer-accepted}
 use Rattle.best.proofs.best.Goals as goal
-
-pub returns-then-number-ne0 : goal.returns-then-number-ne0
-returns-then-number-ne0 c =
-    let s = strip c.args.places.now c.args.lengths.now c.args.weights.now in
-    let entry = best_lent c.args.positions.now c.args.left_out.now c.args.work.now in
-    let number-is = number-found s _ entry _ c.smaller-shortest.result c.smaller-shortest.ensures c.check_pass-number.ensures in
-    answer-refused s _ entry _ number-is (λ e. omega arith)
 
 pub label_marks-sum-requires : goal.label_marks-sum-requires
 label_marks-sum-requires c =
-    let s = strip c.args.places.now c.args.lengths.now c.args.weights.now in
+    let s = lists_of c.args.strip in
     let entry = best_lent c.args.positions.now c.args.left_out.now c.args.work.now in
-    let number-is = number-found s _ entry _ c.smaller-shortest.result c.smaller-shortest.ensures c.check_pass-number.ensures in
-    let passes = zero-passes s _ entry _ number-is (omega arith) in
+    let passes = c.in_ok-check_entry.ensures in
     (accepted-checked s _ entry passes, (lists-enough s _ entry passes).0)
 
 pub list-count-requires : goal.list-count-requires
 list-count-requires c =
-    let s = strip c.args.places.now c.args.lengths.now c.args.weights.now in
+    let s = lists_of c.args.strip in
     let entry = best_lent c.args.positions.now c.args.left_out.now c.args.work.now in
-    let number-is = number-found s _ entry _ c.smaller-shortest.result c.smaller-shortest.ensures c.check_pass-number.ensures in
-    let passes = zero-passes s _ entry _ number-is (omega arith) in
+    let passes = c.in_ok-check_entry.ensures in
     let enough = lists-enough s _ entry passes in
     let checked = (accepted-checked s _ entry passes).checked in
     let one_each = checked.same-weights in
@@ -38,9 +29,8 @@ list-count-requires c =
 
 pub returns : goal.returns
 returns c =
-    let s = strip c.args.places.now c.args.lengths.now c.args.weights.now in
+    let s = lists_of c.args.strip in
     let entry = best_lent c.args.positions.now c.args.left_out.now c.args.work.now in
     let exit = best_lent c.label_marks-sum.new.positions c.list-count.new.left_out c.label_marks-sum.new.work in
-    let number-is = number-found s _ entry _ c.smaller-shortest.result c.smaller-shortest.ensures c.check_pass-number.ensures in
-    let passes = zero-passes s _ entry _ number-is (omega arith) in
+    let passes = c.in_ok-check_entry.ensures in
     answer-accepted s _ entry passes exit _ _ c.label_marks-sum.ensures c.list-count.ensures.listed c.list-count.ensures.counted

@@ -8,7 +8,7 @@ use Rattle.geometry.specs.Strip.{Strip, most_short}
 use Rattle.geometry.specs.Position.{Side, Direction, leftward, rightward, Position}
 use Rattle.geometry.specs.Overlap.{right_end}
 use Rattle.geometry.specs.Pass.{most_gap}
-use Rattle.best.specs.inner.Positions.{lies_on, direction_at}
+use Rattle.geometry.specs.inner.Positions.{lies_on_lem, direction_at}
 
 -- how many names there are for the last label of a side before the mark with index k: two for none, and two for each mark
 abbrev pub names_before : ℕ → ℕ
@@ -28,7 +28,7 @@ direction_of name = cond (eqb (name % 2) 0) leftward rightward
 
 -- the last label of a side once the mark with index k is at p
 abbrev pub last_after : Side → ℕ → Position → ℕ → ℕ
-last_after s k p last = cond (lies_on s p) (name_of k (direction_at p)) last
+last_after s k p last = cond (lies_on_lem s p) (name_of k (direction_at p)) last
 
 -- a mark without its weight, on which no end of its label depends
 abbrev pub label_of : ℕ → ℕ → Mark

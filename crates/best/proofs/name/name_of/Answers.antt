@@ -1,6 +1,6 @@
 -- `best::name::name_of` meets its contract: a name is told by the mark and the direction.
 use mathlib.Core.Path.{refl}
-use Rattle.best.specs.inner.Positions.{position_of, direction_at}
+use Rattle.geometry.specs.inner.Positions.{position_of, direction_at}
 use Rattle.best.proofs.PositionTests.{answered, leftward-told, rightward-told}
 use Rattle.best.proofs.name.name_of.Goals as goal
 

@@ -1,6 +1,6 @@
 -- `best::room::begin_of` meets its contract: the label begins where its direction says.
 use mathlib.Core.Path.{refl}
-use Rattle.best.specs.inner.Positions.{position_of, direction_at}
+use Rattle.geometry.specs.inner.Positions.{position_of, direction_at}
 use Rattle.best.proofs.PositionTests.{answered, leftward-told, rightward-told}
 use Rattle.best.proofs.room.begin_of.Goals as goal
 
