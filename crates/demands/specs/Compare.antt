@@ -1,18 +1,27 @@
 -- Demand 3 seen of code, the best pass against the full pass: "it labels all exactly when full fits".
-use Rattle.std.specs.Prelude.{◌≡◌, ◌↔◌, true, false, ℕ}
+use Rattle.std.specs.Prelude.{◌≡◌, ◌↔◌, Bool, true, false, ℕ, Option as Answer, Some, None}
 use Rattle.std.proofs.Math.Option.{none}
 use Rattle.geometry.specs.Strip.{Strip, marks_of}
 use Rattle.geometry.specs.Placing.{first_placing, best_sum}
 use Rattle.geometry.specs.Refusal.{accepted, refusal_number}
 use Rattle.geometry.specs.declared.refusal.Refusal.TheVariants.{NoPlacing}
 use Rattle.full.specs.Full.{FullLent, full_checks, FullContract}
-use Rattle.best.specs.declared.answer.Best.{Best}
-use Rattle.best.specs.Best.{BestLent, best_checks, BestContract}
+use Rattle.best.specs.Best.{BestAnswer, BestLent, best_checks, BestContract}
 use Rattle.demands.specs.Demands.{BestAndFull}
-use Rattle.demands.specs.declared.answer.Compared.{Compared}
+use Rattle.demands.specs.declared.compare.Comparison.{Comparison}
+
+-- what is handed back: whether both passes accept the strip, whether the full pass fits it, and the best sum; no and 0 where one refuses it
+pub record Compared : Type 0 where
+  pub comparable : Bool
+  pub fits : Bool
+  pub sum : ℕ
+
+abbrev pub compared : Answer Comparison → Compared
+compared (Some c) = record { comparable = true; fits = c.fits; sum = c.sum }
+compared None = record { comparable = false; fits = false; sum = 0 }
 
 -- what is handed back of a strip that both passes accept: `number` is the full pass's, `answer` the best pass's
-pub record Agreement (s : Strip) (gap number : ℕ) (entry exit : BestLent) (answer : Best) (r : Compared) : Type 0 where
+pub record Agreement (s : Strip) (gap number : ℕ) (entry exit : BestLent) (answer : BestAnswer) (r : Compared) : Type 0 where
   -- "the full pass then finds a fit if it gives 0, and none if it gives 11"
   pub fits-exactly : (r.fits ≡ true) ↔ (number ≡ 0)
   pub none-exactly : (r.fits ≡ false) ↔ (number ≡ refusal_number NoPlacing)
@@ -30,7 +39,7 @@ pub record BestAgainstFull (s : Strip) (gap : ℕ) (full_entry full_exit : FullL
   -- both passes ran on the same strip, at one and the same gap
   pub number : ℕ
   pub full-ran : FullContract s gap full_entry full_exit number
-  pub answer : Best
+  pub answer : BestAnswer
   pub best-ran : BestContract s gap best_entry best_exit answer
   -- "What it lists and reports, and whether the full pass finds a fit, are taken from calls that pass checks 9 and 10 too"
   pub comparable-exactly : (r.comparable ≡ true) ↔ ((full_checks s gap full_entry ≡ accepted) × (best_checks s gap best_entry ≡ accepted))

@@ -20,9 +20,8 @@ use Rattle.full.specs.Full.{FullLent, full_checks, FullContract}
 use Rattle.slide.specs.Slide as slide
 use Rattle.slide.specs.Slide.{SlideLent, slide_checks, SlideContract, Placed}
 use Rattle.best.specs.Best as best
-use Rattle.best.specs.Best.{BestLent, best_checks, BestContract}
+use Rattle.best.specs.Best.{BestAnswer, BestLent, best_checks, BestContract}
 use Rattle.best.specs.LeftOut.{left_out_lem, ListsLeftOut, HeaviestFirst}
-use Rattle.best.specs.declared.answer.Best.{Best}
 use Rattle.job.specs.Number.{Bytes}
 use Rattle.job.specs.Outcome.{given, refusal}
 use Rattle.job.specs.Encode.{job_for}
@@ -87,10 +86,10 @@ pub record Demand1 : Type 0 where
   pub slide-clears : (s : Strip) (gap : ℕ) (lent left : SlideLent) (number : ℕ) → SlideContract s gap lent left number
       → slide_checks s gap lent ≡ accepted → left.work ≡ cleared slide.work_named 0 lent.work
   -- the best pass, 6 to 10 and 12: the number "with sum, count and length 0", and nothing changed
-  pub best-refuses : (s : Strip) (gap : ℕ) (lent left : BestLent) (answer : Best) (r : Refusal) → BestContract s gap lent left answer
+  pub best-refuses : (s : Strip) (gap : ℕ) (lent left : BestLent) (answer : BestAnswer) (r : Refusal) → BestContract s gap lent left answer
       → best_checks s gap lent ≡ refused r → (answer.number ≡ refusal_number r) × (answer.sum ≡ 0) × (answer.count ≡ 0) × (left ≡ lent)
   -- past them always 0, and the named part of the work area ends as zeros
-  pub best-clears : (s : Strip) (gap : ℕ) (lent left : BestLent) (answer : Best) → BestContract s gap lent left answer
+  pub best-clears : (s : Strip) (gap : ℕ) (lent left : BestLent) (answer : BestAnswer) → BestContract s gap lent left answer
       → best_checks s gap lent ≡ accepted → (answer.number ≡ 0) × (left.work ≡ cleared best.work_named 0 lent.work)
   -- the reader refuses exactly what `read_into` refuses: 1 to 5 for the job, 9 for "a lent list shorter than the count"
   pub read-refuses : (job : List ℕ) (lent left : Strip) (answer : Read) (r : Refusal) → ReadContract job lent left answer
@@ -137,7 +136,7 @@ pub record Demand2 : Type 0 where
       → length s.places ≤ shortest lent → StripRead s lent left read
 
 -- what the best pass lists where it gives 0
-pub record BestChosen (s : Strip) (gap : ℕ) (lent left : BestLent) (answer : Best) : Type 0 where
+pub record BestChosen (s : Strip) (gap : ℕ) (lent left : BestLent) (answer : BestAnswer) : Type 0 where
   -- "What the best pass lists is the choice in the used part of its position list."
   pub choice : List Position
   pub listed : left.positions ≡ written (map code choice) lent.positions
@@ -156,7 +155,7 @@ pub record BestChosen (s : Strip) (gap : ℕ) (lent left : BestLent) (answer : B
   pub out-only : (other : List ℕ) → ListsLeftOut choice other → HeaviestFirst s.weights other → other ≡ left_out_lem s.weights choice
 
 -- both passes on one strip at one and the same gap, past their checks; `number` is the full pass's, which "finds a fit if it gives 0, and none if it gives 11"
-pub record BestAndFull (s : Strip) (gap : ℕ) (lent left : BestLent) (answer : Best) (number : ℕ) : Type 0 where
+pub record BestAndFull (s : Strip) (gap : ℕ) (lent left : BestLent) (answer : BestAnswer) (number : ℕ) : Type 0 where
   pub chosen : BestChosen s gap lent left answer
   -- "The weight of all marks is the sum of the weight list.": it is the best sum exactly when the full pass fits
   pub whole-exactly : (answer.sum ≡ sum_list s.weights) ↔ (number ≡ 0)
@@ -168,10 +167,10 @@ pub record BestAndFull (s : Strip) (gap : ℕ) (lent left : BestLent) (answer : 
 -- that fits has a placing that begins with an unbeaten part layout."
 pub record Demand3 : Type 0 where
   -- "an overlap-free choice of greatest weight, its sum earned by exactly the listed labels"
-  pub best-chooses : (s : Strip) (gap : ℕ) (lent left : BestLent) (answer : Best) → BestContract s gap lent left answer
+  pub best-chooses : (s : Strip) (gap : ℕ) (lent left : BestLent) (answer : BestAnswer) → BestContract s gap lent left answer
       → answer.number ≡ 0 → BestChosen s gap lent left answer
   -- "it labels all exactly when full fits", both "taken from calls that pass checks 9 and 10 too"
-  pub best-labels-all-where-full-fits : (s : Strip) (gap : ℕ) (lent left : BestLent) (answer : Best) (full_lent full_left : FullLent) (number : ℕ)
+  pub best-labels-all-where-full-fits : (s : Strip) (gap : ℕ) (lent left : BestLent) (answer : BestAnswer) (full_lent full_left : FullLent) (number : ℕ)
       → BestContract s gap lent left answer → answer.number ≡ 0 → FullContract s gap full_lent full_left number
       → full_checks s gap full_lent ≡ accepted → BestAndFull s gap lent left answer number
   -- "The count after mark k is the number of different pairs of reaches, .., that no part layout of those k marks beats": at every gap

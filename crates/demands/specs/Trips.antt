@@ -8,7 +8,7 @@ use Rattle.job.specs.Calls.{shortest, ReadContract, WriteContract}
 use Rattle.job.specs.declared.answer.Read.{Read}
 use Rattle.job.specs.declared.answer.Written.{Written}
 use Rattle.demands.specs.Demands.{NotRead, StripRead, NotWritten, JobWritten}
-use Rattle.demands.specs.declared.answer.Trip.{Trip}
+use Rattle.demands.specs.declared.trips.Trip as handed
 
 -- what a trip hands back of its two calls
 abbrev pub read_of : Trip → Read

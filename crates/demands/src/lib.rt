@@ -1,8 +1,7 @@
-// Small functions over the public calls alone, whose contracts are the user's sentences: their proofs lean on the contracts of
+// Small functions over the public calls whose contracts are the user's sentences: their proofs lean on the contracts of
 // the calls and on the theorems about the definitions, so they show that the contracts suffice. specs/Demands.antt states the three
 // demands whole, of every call that meets its contract.
 #![tactic(auto)]
 
-pub mod answer;
 pub mod compare;
 pub mod trips;

@@ -1,8 +1,17 @@
 // Both round trips: a job that is read and written back, and marks that are written and read back.
-ghost use Rattle.geometry.specs.Strip.{strip};
-ghost use Rattle.demands.specs.Trips.{JobThereAndBack, MarksThereAndBack};
+ghost use Rattle.geometry.specs.Strip.{strip as lists, lists_of};
+ghost use Rattle.demands.specs.Trips.{trip_of, JobThereAndBack, MarksThereAndBack};
 
-use crate::answer::Trip;
+use geometry::refusal::Refusal;
+use geometry::strip::Strip;
+
+// What a round trip hands back: the reader's count of marks and the writer's length of the job, each or its refusal. Where the first
+// call refuses, the second is not made and has its refusal.
+#[derive(Clone, Copy, Debug, PartialEq, Eq)]
+pub struct Trip {
+    pub read: Result<usize, Refusal>,
+    pub written: Result<usize, Refusal>,
+}
 
 // Reads a job, and writes the marks into the copy if the reader accepts it.
 pub fn job_there_and_back(
@@ -14,61 +23,50 @@ pub fn job_there_and_back(
 ) -> Trip
     ensures { JobThereAndBack
         job.now
-        (strip places.old lengths.old weights.old)
-        (strip places.new lengths.new weights.new)
-        copy.old copy.new result }
+        (lists places.old lengths.old weights.old)
+        (lists places.new lengths.new weights.new)
+        copy.old copy.new (trip_of result) }
 {
-    let found = job::reader::read(job, places, lengths, weights);
-    if found.number != 0 {
-        return Trip {
-            read: found.number,
-            written: found.number,
-            count: found.count,
-            length: 0,
-        };
-    }
-    let count = found.count;
-    let made = job::writer::write(&places[..count], &lengths[..count], &weights[..count], copy);
-    Trip {
-        read: found.number,
-        written: made.number,
-        count,
-        length: made.length,
-    }
+    let read = job::reader::read(job, places, lengths, weights);
+    let count = match read {
+        Ok(count) => count,
+        Err(refusal) => return Trip {
+            read,
+            written: Err(refusal),
+        },
+    };
+    let strip = Strip {
+        places: &places[..count],
+        lengths: &lengths[..count],
+        weights: &weights[..count],
+    };
+    let written = job::writer::write(strip, copy);
+    Trip { read, written }
 }
 
-// Writes marks as a job, and reads the job into the three other lists if the writer accepts the marks.
+// Writes marks as a job, and reads the job into the three lists if the writer accepts the marks.
 pub fn marks_there_and_back(
-    places: &[i16],
-    lengths: &[u8],
-    weights: &[u16],
+    strip: Strip,
     job: &mut [u8],
     places_back: &mut [i16],
     lengths_back: &mut [u8],
     weights_back: &mut [u16],
 ) -> Trip
     ensures { MarksThereAndBack
-        (strip places.now lengths.now weights.now)
+        (lists_of strip.entry)
         job.old job.new
-        (strip places_back.old lengths_back.old weights_back.old)
-        (strip places_back.new lengths_back.new weights_back.new)
-        result }
+        (lists places_back.old lengths_back.old weights_back.old)
+        (lists places_back.new lengths_back.new weights_back.new)
+        (trip_of result) }
 {
-    let made = job::writer::write(places, lengths, weights, job);
-    if made.number != 0 {
-        return Trip {
-            read: made.number,
-            written: made.number,
-            count: 0,
-            length: made.length,
-        };
-    }
-    let length = made.length;
-    let found = job::reader::read(&job[..length], places_back, lengths_back, weights_back);
-    Trip {
-        read: found.number,
-        written: made.number,
-        count: found.count,
-        length,
-    }
+    let written = job::writer::write(strip, job);
+    let length = match written {
+        Ok(length) => length,
+        Err(refusal) => return Trip {
+            read: Err(refusal),
+            written,
+        },
+    };
+    let read = job::reader::read(&job[..length], places_back, lengths_back, weights_back);
+    Trip { read, written }
 }

@@ -4,6 +4,9 @@ ghost use Rattle.full.specs.Full.{full_lent, FullContract};
 ghost use Rattle.slide.specs.Slide.{slide_lent, SlideContract};
 ghost use Rattle.best.specs.Best.{best_lent, BestContract};
 
+use geometry::refusal::number;
+use geometry::strip::Strip;
+
 // The position of every mark in `positions`, or 11; 6 to 10 or 12 if a check is not passed.
 #[unsafe(no_mangle)]
 pub extern "C" fn strip_full(
@@ -19,7 +22,12 @@ pub extern "C" fn strip_full(
         (full_lent positions.old work.old)
         (full_lent positions.new work.new) result }
 {
-    full::full(places, lengths, weights, gap, positions, work)
+    let strip = Strip {
+        places,
+        lengths,
+        weights,
+    };
+    number(&full::full(strip, gap, positions, work))
 }
 
 // The side of every mark in `sides` and its left edge in `edges`, or 11; 6 to 10 or 12 if a check is not passed.
@@ -38,7 +46,12 @@ pub extern "C" fn strip_slide(
         (slide_lent sides.old edges.old work.old)
         (slide_lent sides.new edges.new work.new) result }
 {
-    slide::slide(places, lengths, weights, gap, sides, edges, work)
+    let strip = Strip {
+        places,
+        lengths,
+        weights,
+    };
+    number(&slide::slide(strip, gap, sides, edges, work))
 }
 
 // A position for every mark in `positions`, 0 for none, and the marks at 0 in `left_out`, heaviest first; 6 to 10 or 12 if a check
@@ -61,8 +74,13 @@ pub extern "C" fn strip_best(
         (best_lent positions.new left_out.new work.new)
         (record { number = result; sum = sum.new; count = count.new }) }
 {
-    let answer = best::best(places, lengths, weights, gap, positions, left_out, work);
-    *sum = answer.sum;
-    *count = answer.count;
-    answer.number
+    let strip = Strip {
+        places,
+        lengths,
+        weights,
+    };
+    let answer = best::best(strip, gap, positions, left_out, work);
+    *sum = answer.map_or(0, |choice| choice.sum);
+    *count = answer.map_or(0, |choice| choice.count);
+    number(&answer)
 }
