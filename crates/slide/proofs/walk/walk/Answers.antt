@@ -11,12 +11,15 @@ use Rattle.geometry.specs.inner.Place.{place_of_lem}
 use Rattle.geometry.proofs.Dots.{fetched}
 use Rattle.geometry.proofs.Places.{place-mag}
 use Rattle.slide.specs.inner.Handed.{mark_of}
-use Rattle.slide.proofs.WalkedSoFar.{walked_all, step-ready, walked_more}
+use Rattle.slide.proofs.WalkedSoFar.{walked_none, walked_all, step-ready, walked_more}
 use Rattle.slide.proofs.walk.walk.Goals as goal
 
 -- the edge that is stored
 edge-written : (edge : ℕ) (z : ℤ) → z ≡ place_of_lem edge → edge < 65536 → to_z w16 (of_z w16 z) ≡ place_of_lem edge
 edge-written edge z is small = ap (λ y. to_z w16 (of_z w16 y)) is ∙ fetched (place_of_lem edge) (place-mag edge small)
+
+pub loop-i-init : goal.loop-i-init
+loop-i-init c = walked_none _ _ _ _ _ _ (omega arith) c.requires.fits
 
 pub place_label-label-requires : goal.place_label-label-requires
 place_label-label-requires c =
