@@ -11,7 +11,7 @@ mod walk;
 
 ghost use Rattle.std.specs.Prelude.{◌≡◌, ◌≤◌, length};
 ghost use Rattle.geometry.specs.Refusal.{verdict_of};
-ghost use Rattle.geometry.specs.Strip.{strip, lists_of};
+ghost use Rattle.geometry.specs.Strip.{lists_of};
 ghost use Rattle.best.specs.Best.{BestContract, best_lent, best_checks, best_answer};
 ghost use Rattle.best.specs.inner.Names.{Reaches};
 ghost use Rattle.best.specs.inner.Checked.{CheckedAt, Labelled};
@@ -45,45 +45,36 @@ fn check_entry(
 // The positions and their sum, by the table and the walk; leaves zeros in the work area. The table looks reaches up in the list; the walk,
 // which needs few, finds them by the gap.
 fn fill_and_walk(
-    places: &[i16],
-    lengths: &[u8],
-    weights: &[u16],
+    strip: Strip,
     gap: u8,
     reaches: &[u16],
     positions: &mut [u8],
     work: &mut [u32],
 ) -> u32
-    requires checked { CheckedAt gap (strip places.now lengths.now weights.now) work.old }
-    requires reaches_known { Reaches gap places.now lengths.now reaches.now }
-    requires positions_long { length places.now ≤ length positions.old }
+    requires checked { CheckedAt gap (lists_of strip) work.old }
+    requires reaches_known { Reaches gap strip.places.now strip.lengths.now reaches.now }
+    requires positions_long { length strip.places.now ≤ length positions.old }
     ensures { Labelled gap
-        (strip places.now lengths.now weights.now) positions.old
+        (lists_of strip.entry) positions.old
         positions.new work.old work.new result }
 {
-    table::fill(places, lengths, weights, reaches, work);
-    walk::place_labels(places, lengths, weights, gap, positions, work);
+    table::fill(strip, reaches, work);
+    walk::place_labels(strip, gap, positions, work);
     let sum = work[0];
     table::clear(work);
     sum
 }
 
 // The same for an accepted strip.
-fn label_marks(
-    places: &[i16],
-    lengths: &[u8],
-    weights: &[u16],
-    gap: u8,
-    positions: &mut [u8],
-    work: &mut [u32],
-) -> u32
-    requires { (CheckedAt gap (strip places.now lengths.now weights.now) work.old) × (length places.now ≤ length positions.old) }
+fn label_marks(strip: Strip, gap: u8, positions: &mut [u8], work: &mut [u32]) -> u32
+    requires { (CheckedAt gap (lists_of strip) work.old) × (length strip.places.now ≤ length positions.old) }
     ensures { Labelled gap
-        (strip places.now lengths.now weights.now) positions.old
+        (lists_of strip.entry) positions.old
         positions.new work.old work.new result }
 {
     let mut reaches = [0u16; NAMES];
-    name::set_reaches(places, lengths, gap, &mut reaches);
-    fill_and_walk(places, lengths, weights, gap, &reaches, positions, work)
+    name::set_reaches(strip, gap, &mut reaches);
+    fill_and_walk(strip, gap, &reaches, positions, work)
 }
 
 // A choice with the greatest sum of an overlap-free choice, at a gap of 0 to 8 dots. `positions` gets a position for each mark, 0 for
@@ -107,14 +98,7 @@ pub fn best(
         (best_lent positions.new left_out.new work.new) (best_answer result) }
 {
     check_entry(strip, gap, positions, left_out, work)?;
-    let sum = label_marks(
-        strip.places,
-        strip.lengths,
-        strip.weights,
-        gap,
-        positions,
-        work,
-    );
+    let sum = label_marks(strip, gap, positions, work);
     let count = left_out::list(strip.weights, positions, left_out);
     Ok(Choice { sum, count })
 }

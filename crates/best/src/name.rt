@@ -1,17 +1,43 @@
 // Names of labels. A side of the line is described by its last label, and a label by its name: twice the number of its mark, and one
 // more if it lies to the right of the mark. 0 and 1 name no label.
-ghost use Rattle.std.specs.Prelude.{◌≡◌, cond, ◌≤◌, ◌<◌, length};
-ghost use Rattle.geometry.specs.Strip.{most_short};
-ghost use Rattle.geometry.specs.inner.Positions.{position_of, direction_at};
-ghost use Rattle.best.specs.inner.Names.{names_before, name_of, reach_named, Known, Reaches};
+ghost use Rattle.std.specs.Prelude.{◌≡◌, ◌≤◌, ◌<◌, length};
+ghost use Rattle.geometry.specs.Position.{above, below};
+ghost use Rattle.geometry.specs.Strip.{lists_of, most_short};
+ghost use Rattle.geometry.specs.inner.Positions.{position_of, side_of, direction_at};
+ghost use Rattle.best.specs.inner.Names.{names_before, name_of, last_after, reach_at, Known, Reaches};
 
 use geometry::dot::dot_of;
 use geometry::limits::MOST_SHORT;
 use geometry::outside::EMPTY_REACH;
-use geometry::position::Position;
+use geometry::position::{Position, Side};
+use geometry::strip::Strip;
 
 // How many names there are for a side's last label: two for none, and two for each mark.
 pub const NAMES: usize = 2 * MOST_SHORT + 2;
+
+// The last labels of the two sides.
+#[derive(Clone, Copy)]
+pub struct LastLabels {
+    pub above: usize,
+    pub below: usize,
+}
+
+// The two sides before the first mark.
+pub const NO_LABELS: LastLabels = LastLabels { above: 0, below: 0 };
+
+impl LastLabels {
+    // The last labels once mark k is at p.
+    pub fn after(self, k: usize, p: Position) -> LastLabels
+        requires { k < most_short }
+        ensures above_is { result.above ≡ last_after above k (position_of p) self.above }
+        ensures below_is { result.below ≡ last_after below k (position_of p) self.below }
+    {
+        LastLabels {
+            above: last_after(Side::Above, k, p, self.above),
+            below: last_after(Side::Below, k, p, self.below),
+        }
+    }
+}
 
 // The name of the label of mark k, counted from 0, at p.
 fn name_of(k: usize, p: Position) -> usize
@@ -19,50 +45,46 @@ fn name_of(k: usize, p: Position) -> usize
     ensures { result ≡ name_of k (direction_at (position_of p)) }
 {
     if p.is_leftward() {
-        return 2 * k + 2;
+        2 * k + 2
+    } else {
+        2 * k + 3
     }
-    2 * k + 3
 }
 
-// The last label of a side once mark k is at p, where p may lie on that side or not.
-pub fn last_after(on_side: bool, k: usize, p: Position, last: usize) -> usize
+// The last label of a side once mark k is at p, which may lie on that side or not.
+fn last_after(side: Side, k: usize, p: Position, last: usize) -> usize
     requires { k < most_short }
-    ensures { result ≡ cond on_side (name_of k (direction_at (position_of p))) last }
+    ensures { result ≡ last_after (side_of side) k (position_of p) last }
 {
-    if on_side {
-        return name_of(k, p);
-    }
-    last
+    if p.lies_on(side) { name_of(k, p) } else { last }
 }
 
 // The reach, as a dot, of a side whose last label has this name: the label's right end with the gap, which counts here and nowhere else.
-pub fn reach_of(places: &[i16], lengths: &[u8], gap: u8, name: usize) -> u16
-    requires { Known gap places.now lengths.now name }
-    ensures { result ≡ reach_named gap places.now lengths.now name }
+pub fn reach_of(strip: Strip, gap: u8, name: usize) -> u16
+    requires { Known gap strip.places.now strip.lengths.now name }
+    ensures { result ≡ reach_at gap (lists_of strip.entry) name }
 {
     if name < 2 {
         return dot_of(EMPTY_REACH);
     }
     let i = name / 2 - 1;
-    let place = dot_of(places[i]);
+    let place = dot_of(strip.places[i]);
     let end = if name % 2 == 0 {
         place
     } else {
-        place + lengths[i] as u16
+        place + strip.lengths[i] as u16
     };
     end + gap as u16
 }
 
 // Puts the reach of every name into a list, so that the loops of the table look it up.
-pub fn set_reaches(places: &[i16], lengths: &[u8], gap: u8, reaches: &mut [u16])
-    requires known { Known gap places.now lengths.now 0 }
-    requires reaches_long { names_before (length places.now) ≤ length reaches.old }
-    requires few { length places.now ≤ most_short }
-    ensures { Reaches gap places.now lengths.now reaches.new }
+pub fn set_reaches(strip: Strip, gap: u8, reaches: &mut [u16])
+    requires known { Known gap strip.places.now strip.lengths.now 0 }
+    requires reaches_long { names_before (length strip.places.now) ≤ length reaches.old }
+    requires few { length strip.places.now ≤ most_short }
+    ensures { Reaches gap strip.entry.places.now strip.entry.lengths.now reaches.new }
 {
-    let mut name = 0;
-    while name < 2 * places.len() + 2 {
-        reaches[name] = reach_of(places, lengths, gap, name);
-        name += 1;
+    for name in 0..2 * strip.places.len() + 2 {
+        reaches[name] = reach_of(strip, gap, name);
     }
 }

@@ -21,10 +21,7 @@ fn larger(a: u32, b: u32) -> u32
     requires b_small { b ≤ most_offer }
     ensures { result ≡ max a b }
 {
-    if (a as i32) < (b as i32) {
-        return b;
-    }
-    a
+    if (a as i32) < (b as i32) { b } else { a }
 }
 
 // The most that a label earns on a side that reaches to `reach`: `to_left` if it begins at `left`, `to_right` if at `place`, and
@@ -37,12 +34,12 @@ fn offer(reach: u16, left: u16, place: u16, to_left: u32, to_right: u32) -> u32
     ensures small { result ≤ most_offer }
 {
     if reach <= left {
-        return larger(to_left, to_right);
+        larger(to_left, to_right)
+    } else if reach <= place {
+        to_right
+    } else {
+        0
     }
-    if reach <= place {
-        return to_right;
-    }
-    0
 }
 
 // A cell of the row, from the reach below, the cell as it is, and the cells of the label above to the left and above to the right.

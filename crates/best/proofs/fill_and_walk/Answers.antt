@@ -1,5 +1,5 @@
 -- `best::fill_and_walk` meets its contract: the filled table, the walk by it, and its first cell.
-use Rattle.geometry.specs.Strip.{strip}
+use Rattle.geometry.specs.Strip.{lists_of}
 use Rattle.geometry.proofs.Lent.{cleared-again}
 use Rattle.best.specs.Best.{work_named}
 use Rattle.best.proofs.RenewedInParts.{checked-again}
@@ -18,7 +18,7 @@ place_labels-requires c = record {
 
 pub returns : goal.returns
 returns c =
-    let s = strip c.args.places.now c.args.lengths.now c.args.weights.now in
+    let s = lists_of c.args.strip in
     let again = cleared-again work_named 0 c.clear.new.work c.fill.new.work c.args.work.now in
     record {
       positions-written = c.place_labels.ensures;

@@ -2,36 +2,20 @@
 use mathlib.Core.Path.{◌∙◌}
 use Prim.Native.Nat.{◌-◌, ◌/◌}
 use native.Mathlib.Omega.{arith}
-use Rattle.best.proofs.NamedReaches.{dot-read, dot-bounds, reach-of-none, reach-of-left, reach-of-right}
+use Rattle.best.proofs.NamedReaches.{dot-read, reach-of-none, reach-of-left, reach-of-right}
 use Rattle.best.proofs.name.reach_of.Goals as goal
 use Rattle.best.proofs.name.reach_of.Goals.{then-name-eq0, else-name-eq0}
 
 pub returns-then-name-lt2 : goal.returns-then-name-lt2
 returns-then-name-lt2 c = c.dot_of.ensures ∙ reach-of-none _ _ _ _ c.if-name-lt2.true
 
-pub overflow_add-end : goal.overflow_add-end
-overflow_add-end c =
-    let i = c.args.name / 2 - 1 in
-    let read = dot-read c.args.places.now i c.requires.places-good (omega (arith, c.requires.within)) _ c.dot_of-place.ensures in
-    let bounds = dot-bounds c.args.places.now i c.requires.places-good (omega (arith, c.requires.within)) in
-    omega (arith, read, bounds, c.type_inv.lengths i)
-
-pub overflow_add-result : goal.overflow_add-result
-overflow_add-result c =
-    let i = c.args.name / 2 - 1 in
-    let read = dot-read c.args.places.now i c.requires.places-good (omega (arith, c.requires.within)) _ c.dot_of-place.ensures in
-    let bounds = dot-bounds c.args.places.now i c.requires.places-good (omega (arith, c.requires.within)) in
-    elim c.if-name-eq0.branch [
-      | then-name-eq0 w ↦ omega (arith, w.end-is, read, bounds, c.requires.gap-narrow)
-      | else-name-eq0 w ↦ omega (arith, w.end-is, read, bounds, c.type_inv.lengths i, c.requires.gap-narrow)
-    ]
-
 pub returns : goal.returns
 returns c =
+    let s = c.args.strip in
     let i = c.args.name / 2 - 1 in
-    let read = dot-read c.args.places.now i c.requires.places-good (omega (arith, c.requires.within)) _ c.dot_of-place.ensures in
-    let left = reach-of-left c.args.gap c.args.places.now c.args.lengths.now c.args.name c.if-name-lt2.false in
-    let right = reach-of-right c.args.gap c.args.places.now c.args.lengths.now c.args.name c.if-name-lt2.false in
+    let read = dot-read s.places.now i c.requires.places-good (omega (arith, c.requires.within)) _ c.dot_of-place.ensures in
+    let left = reach-of-left c.args.gap s.places.now s.lengths.now c.args.name c.if-name-lt2.false in
+    let right = reach-of-right c.args.gap s.places.now s.lengths.now c.args.name c.if-name-lt2.false in
     elim c.if-name-eq0.branch [
       | then-name-eq0 w ↦ omega (arith, w.end-is, read, left w.if-name-eq0.true)
       | else-name-eq0 w ↦ omega (arith, w.end-is, read, right w.if-name-eq0.false)

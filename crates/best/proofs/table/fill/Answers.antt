@@ -2,7 +2,7 @@
 use mathlib.Core.Path.{◌≡◌, refl, ◌∙◌}
 use Prim.Native.Nat.{suc, ◌-◌}
 use native.Mathlib.Omega.{arith}
-use Rattle.geometry.specs.Strip.{strip}
+use Rattle.geometry.specs.Strip.{lists_of}
 use Rattle.geometry.proofs.Lent.{drop-cleared}
 use Rattle.best.specs.Best.{work_named}
 use Rattle.best.proofs.TableRenewed.{none-renewed, all-renewed, cleared-table}
@@ -11,12 +11,12 @@ use Rattle.best.proofs.table.fill.Goals as goal
 
 pub loop-k-init : goal.loop-k-init
 loop-k-init c =
-    let s = strip c.args.places.now c.args.lengths.now c.args.weights.now in
+    let s = lists_of c.args.strip in
     (omega arith, refl, λ g known. cleared-table g s _ c.clear.new.work c.args.work.now c.requires.checked c.clear.ensures, refl)
 
 pub renew-requires : goal.renew-requires
 renew-requires c =
-    let s = strip c.args.places.now c.args.lengths.now c.args.weights.now in
+    let s = lists_of c.args.strip in
     let loop = c.loop-k in
     let one_more : loop.k ≡ suc (loop.k - 1) = omega arith in
     record {
@@ -27,7 +27,7 @@ renew-requires c =
 
 pub loop-k-preserved : goal.loop-k-preserved
 loop-k-preserved c =
-    let s = strip c.args.places.now c.args.lengths.now c.args.weights.now in
+    let s = lists_of c.args.strip in
     let h = c.loop-k.invariant in
     let done = c.renew.ensures in (
       omega arith,

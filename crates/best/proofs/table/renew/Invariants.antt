@@ -1,15 +1,12 @@
 -- `best::table::renew` meets its contract: the rows before `above` count mark k, the others do not yet.
 use mathlib.Core.Path.{◌≡◌}
-use Prim.Native.Nat.{◌*◌, ◌-◌, ◌≤◌}
+use Prim.Native.Nat.{◌*◌, ◌≤◌}
 use lib.ListN.{length}
-use Rattle.geometry.specs.Strip.{strip}
+use Rattle.geometry.specs.Strip.{lists_of}
 use Rattle.best.specs.inner.Names.{names, names_before}
 use Rattle.best.specs.inner.Table.{Renewed}
 use Rattle.best.proofs.table.renew.Given as goal
 
 abbrev pub invariant-loop-above : goal.invariant-loop-above
 invariant-loop-above l = (l.above ≤ names_before l.k) × (length l.work ≡ length l.initial.work)
-    × Renewed (strip l.places l.lengths l.weights) l.reaches l.k (l.above * names) l.initial.work l.work
-
-abbrev pub decreases-loop-above : goal.decreases-loop-above
-decreases-loop-above l = names_before l.k - l.above
+    × Renewed (lists_of l.strip) l.reaches l.k (l.above * names) l.initial.work l.work

@@ -2,7 +2,7 @@
 -- change, and what the cells share holds all the while.
 use mathlib.Core.Path.{refl, ◌∙◌}
 use native.Mathlib.Omega.{arith}
-use Rattle.geometry.specs.Strip.{strip}
+use Rattle.geometry.specs.Strip.{lists_of}
 use Rattle.best.proofs.TableRenewed.{skip-rest}
 use Rattle.best.proofs.RowGivesCells.{row-asked, cell-asked, one-cell-more}
 use Rattle.best.proofs.RenewedInParts.{renewed-none, renewed-so-far, renewed-more}
@@ -10,24 +10,24 @@ use Rattle.best.proofs.table.renew_row.Goals as goal
 
 pub row_of-row-requires : goal.row_of-row-requires
 row_of-row-requires c =
-    row-asked (strip c.args.places.now c.args.lengths.now c.args.weights.now) _ _ c.args.k _ c.args.above c.requires.renewing
+    row-asked (lists_of c.args.strip) _ _ c.args.k _ c.args.above c.requires.renewing
     c.requires.above_before
 
 pub loop-below-init : goal.loop-below-init
 loop-below-init c =
-    let s = strip c.args.places.now c.args.lengths.now c.args.weights.now in
+    let s = lists_of c.args.strip in
     (omega arith, refl, renewed-none s _ c.args.k _ _ _ (omega arith) c.requires.renewing, c.row_of-row.ensures)
 
 pub renew_cell-requires : goal.renew_cell-requires
 renew_cell-requires c =
-    let s = strip c.args.places.now c.args.lengths.now c.args.weights.now in
+    let s = lists_of c.args.strip in
     let h = c.loop-below.invariant in
     let next = renewed-so-far s _ c.args.k _ c.loop-below.work _ _ c.requires.renewing h.1 h.2 in
     cell-asked s _ c.loop-below.work c.args.k _ _ _ h.3 next c.requires.above_before (omega arith)
 
 pub loop-below-preserved : goal.loop-below-preserved
 loop-below-preserved c =
-    let s = strip c.args.places.now c.args.lengths.now c.args.weights.now in
+    let s = lists_of c.args.strip in
     let h = c.loop-below.invariant in
     let next = renewed-so-far s _ c.args.k _ c.loop-below.work _ _ c.requires.renewing h.1 h.2 in
     let more = one-cell-more s _ c.loop-below.work c.args.k _ _ _ h.3 next c.requires.above_before (omega arith) _ c.renew_cell.ensures in (
@@ -39,7 +39,7 @@ loop-below-preserved c =
 
 pub returns : goal.returns
 returns c =
-    let s = strip c.args.places.now c.args.lengths.now c.args.weights.now in
+    let s = lists_of c.args.strip in
     let loop = c.loop-below in
     record {
       partly = λ g known.

@@ -1,9 +1,9 @@
 -- `best::table::renew_row` meets its contract: the cells of the row before `below` count mark k, those beyond need no
 -- change, and what the cells share holds all the while.
 use mathlib.Core.Path.{◌≡◌}
-use Prim.Native.Nat.{◌-◌, ◌≤◌}
+use Prim.Native.Nat.{◌≤◌}
 use lib.ListN.{length}
-use Rattle.geometry.specs.Strip.{strip}
+use Rattle.geometry.specs.Strip.{lists_of}
 use Rattle.best.specs.inner.Names.{names_before}
 use Rattle.best.specs.inner.Table.{cell_of, Renewed}
 use Rattle.best.specs.inner.Row.{RowOf}
@@ -11,8 +11,5 @@ use Rattle.best.proofs.table.renew_row.Given as goal
 
 abbrev pub invariant-loop-below : goal.invariant-loop-below
 invariant-loop-below l = (l.below ≤ names_before l.k) × (length l.work ≡ length l.initial.work)
-    × Renewed (strip l.places l.lengths l.weights) l.reaches l.k (cell_of l.above l.below) l.initial.work l.work
-    × RowOf (strip l.places l.lengths l.weights) l.reaches l.work l.k l.above l.row
-
-abbrev pub decreases-loop-below : goal.decreases-loop-below
-decreases-loop-below l = names_before l.k - l.below
+    × Renewed (lists_of l.strip) l.reaches l.k (cell_of l.above l.below) l.initial.work l.work
+    × RowOf (lists_of l.strip) l.reaches l.work l.k l.above l.row
