@@ -1,13 +1,13 @@
--- A loop that goes through the texts, one a turn: so many texts have been passed, and with them so many bytes. What is left of the counts
--- still adds up to what is left of the bytes, so the next text lies within them, and its letters and its count are good.
+-- Texts that are gone through one after the other, with what is left of the counts and of the bytes. These belong together as all do, so the
+-- next text lies within the bytes, its letters and its count are good, and what is left behind it belongs together again.
 use mathlib.Core.Path.{◌≡◌, refl, sym, ◌∙◌, ap, subst}
 use mathlib.Core.Bool.{true, false, ◌&&◌}
 use mathlib.Core.List.{List, [], ◌∷◌, ◌++◌, append-nil}
 use Prim.Native.Nat.{ℕ, ◌+◌, ◌≤◌, ◌<◌}
 use native.Mathlib.Numerals.{add-one}
 use native.Mathlib.Omega.{arith}
-use lib.ListN.{length, get_or, take, drop, set, length-drop, length-set}
-use lib.Seq.{drop-cons, drop-length, drop-drop, length-take-le, append_snoc}
+use lib.ListN.{length, get_or, take, drop, set, length-drop, drop_of_length-le}
+use lib.Seq.{drop-cons, length-take-le, append_snoc}
 use Rattle.geometry.specs.Lists.{sum_list}
 use Rattle.std.specs.List.{list_all}
 use Rattle.geometry.specs.Mark.{most_length, length_in_range_lem}
@@ -18,138 +18,122 @@ use Rattle.geometry.proofs.Lent.{take_more, drop_more, written-whole}
 use Rattle.geometry.proofs.Split.{one-to}
 use Rattle.font.specs.Letters.{in_font_lem}
 use Rattle.font.specs.Text.{text_width, texts_of, lengths_of}
-use Rattle.font.specs.inner.Counts.{most_bytes, count_fits_lem, Readable, ReadableTexts, Going, text_at_lem}
-use Rattle.font.proofs.CutTexts.{sum-next, length-lengths}
+use Rattle.font.specs.inner.Counts.{most_bytes, count_fits_lem, Readable, ReadableTexts}
+use Rattle.font.proofs.CutTexts.{length-lengths}
 
--- the lengths that are left
-abbrev pub lengths_left : List ℕ → List ℕ → ℕ → ℕ → List ℕ
-lengths_left texts counts at i = lengths_of (drop i counts) (drop at texts)
+-- whether all texts are in range
+abbrev pub all_in_range : List ℕ → List ℕ → mathlib.Core.Bool.Bool
+all_in_range rest counts = list_all length_in_range_lem (lengths_of counts rest)
 
-pub going-starts : (texts counts : List ℕ) → ReadableTexts texts counts → Going texts counts 0 0
-going-starts texts counts readable = record { passed = omega arith; within = omega arith; left = readable }
+-- the counts that are left: the next, and those behind it
+pub counts-next : (counts : List ℕ) (i : ℕ) → i < length counts → drop i counts ≡ get_or counts i 0 ∷ drop (i + 1) counts
+counts-next counts i h = rw add-one (drop-cons counts i 0 h)
 
-module _ (texts counts : List ℕ) (at i : ℕ) (going : Going texts counts at i) where
-  module _ (h : i < length counts) where
-    abbrev next : ℕ
-    next = get_or counts i 0
+pub counts-end : (counts : List ℕ) (i : ℕ) → length counts ≤ i → drop i counts ≡ []
+counts-end counts i h = drop_of_length-le counts (omega arith)
 
-    -- the next text's end lies within the bytes
-    pub end-within : at + next ≤ length texts
-    end-within = omega (arith, going.within, going.left.adds-up, sum-next counts i h, length-drop at texts)
+module _ (rest counts : List ℕ) (i : ℕ) (left : ReadableTexts rest (drop i counts)) (h : i < length counts) where
+  abbrev next : ℕ
+  next = get_or counts i 0
 
-    counts-next : drop i counts ≡ next ∷ drop (i + 1) counts
-    counts-next = rw add-one (drop-cons counts i 0 h)
+  abbrev behind : List ℕ
+  behind = drop (i + 1) counts
 
-    counts-fit : list_all count_fits_lem (next ∷ drop (i + 1) counts) ≡ true
-    counts-fit = subst (λ (l : List ℕ). list_all count_fits_lem l ≡ true) counts-next going.left.counts-good
+  as-next : ReadableTexts rest (next ∷ behind)
+  as-next = subst (λ (l : List ℕ). ReadableTexts rest l) (counts-next counts i h) left
 
-    next_fits : (1 ≤ next) × (next ≤ most_bytes)
-    next_fits = one-to most_bytes next (first_good count_fits_lem next (drop (i + 1) counts) counts-fit)
+  -- the next text's end lies within the bytes
+  pub next-within : next ≤ length rest
+  unfolding sum_list
+  next-within = omega (arith, as-next.adds-up)
 
-    letters-left : list_all in_font_lem (drop (at + next) texts) ≡ true
-    letters-left =
-        subst (λ (l : List ℕ). list_all in_font_lem l ≡ true) (drop-drop next at texts) (every_drop in_font_lem next (drop at texts) going.left.letters-good)
+  next_fits : (1 ≤ next) × (next ≤ most_bytes)
+  next_fits = one-to most_bytes next (first_good count_fits_lem next behind as-next.counts-good)
 
-    sum_left : sum_list (drop (i + 1) counts) ≡ length (drop (at + next) texts)
-    sum_left = omega (arith, end-within, going.left.adds-up, sum-next counts i h, length-drop at texts, length-drop (at + next) texts)
+  text-long : length (take next rest) ≡ next
+  text-long = length-take-le next rest next-within
 
-    module _ {text : List ℕ} (is : text ≡ text_at_lem texts counts at i) where
-      text-long : length text ≡ next
-      text-long = ap length is ∙ length-take-le next (drop at texts) (omega (arith, end-within, length-drop at texts))
+  -- it has a width, and some bytes
+  pub text-readable : Readable (take next rest)
+  text-readable =
+      record { letters-good = every_take in_font_lem next rest as-next.letters-good; few = omega (arith, text-long, next_fits) }
 
-      -- it has a width, and some bytes
-      pub text-readable : Readable text
-      text-readable =
-          record {
-            letters-good = rw is (every_take in_font_lem next (drop at texts) going.left.letters-good);
-            few = omega (arith, text-long, next_fits);
-          }
+  pub text-some : 1 ≤ length (take next rest)
+  text-some = omega (arith, text-long, next_fits)
 
-      pub text-some : 1 ≤ length text
-      text-some = omega (arith, text-long, next_fits)
+  -- one text further
+  pub behind-readable : ReadableTexts (drop next rest) behind
+  unfolding sum_list
+  behind-readable =
+      record {
+        adds-up = omega (arith, next-within, as-next.adds-up, length-drop next rest);
+        letters-good = every_drop in_font_lem next rest as-next.letters-good;
+        counts-good = rest-good count_fits_lem next behind as-next.counts-good;
+      }
 
-      -- one text further
-      pub text-within : at + length text ≤ length texts
-      text-within = omega (arith, end-within, text-long)
-
-      pub going_on : Going texts counts (at + length text) (i + 1)
-      going_on =
-          rw text-long
-          (record {
-            passed = omega arith;
-            within = end-within;
-            left = record { adds-up = sum_left; letters-good = letters-left; counts-good = rest-good count_fits_lem next (drop (i + 1) counts) counts-fit };
-          })
-
-      -- its length is the first of those that were left
-      pub lengths-next : lengths_left texts counts at i ≡ text_width text ∷ lengths_left texts counts (at + length text) (i + 1)
-      unfolding texts_of
-      lengths-next = rw (text-long, is, counts-next, ← drop-drop next at texts) refl
-
-      -- so the test of all that are left is the test of the first, and then that of the rest
-      tests_left : list_all length_in_range_lem (lengths_left texts counts at i)
-          ≡ (length_in_range_lem (text_width text) && list_all length_in_range_lem (lengths_left texts counts (at + length text) (i + 1)))
-      tests_left = ap (list_all length_in_range_lem) lengths-next
-
-      pub left-fails : length_in_range_lem (text_width text) ≡ false → list_all length_in_range_lem (lengths_left texts counts at i) ≡ false
-      left-fails bad = tests_left ∙ rw bad refl
-
-      pub left-passes : length_in_range_lem (text_width text) ≡ true
-          → list_all length_in_range_lem (lengths_left texts counts at i) ≡ list_all length_in_range_lem (lengths_left texts counts (at + length text) (i + 1))
-      left-passes good = tests_left ∙ rw good refl
-
-  -- at the end none is left
-  pub lengths-end : i ≡ length counts → lengths_left texts counts at i ≡ []
+  -- its length is the first of those that were left
+  pub lengths-next : lengths_of (drop i counts) rest ≡ text_width (take next rest) ∷ lengths_of behind (drop next rest)
   unfolding texts_of
-  lengths-end e = rw (e, drop-length counts) refl
+  lengths-next = rw (counts-next counts i h) refl
+
+  -- so the test of all that are left is the test of the first, and then that of the rest
+  tests_left : all_in_range rest (drop i counts) ≡ (length_in_range_lem (text_width (take next rest)) && all_in_range (drop next rest) behind)
+  tests_left = ap (list_all length_in_range_lem) lengths-next
+
+  pub left-fails : length_in_range_lem (text_width (take next rest)) ≡ false → all_in_range rest (drop i counts) ≡ false
+  left-fails bad = tests_left ∙ rw bad refl
+
+  pub left-passes : length_in_range_lem (text_width (take next rest)) ≡ true → all_in_range rest (drop i counts) ≡ all_in_range (drop next rest) behind
+  left-passes good = tests_left ∙ rw good refl
+
+-- at the end none is left
+lengths-end : (rest counts : List ℕ) (i : ℕ) → length counts ≤ i → lengths_of (drop i counts) rest ≡ []
+unfolding texts_of
+lengths-end rest counts i h = rw (counts-end counts i h) refl
+
+pub none-left : (rest counts : List ℕ) (i : ℕ) → length counts ≤ i → all_in_range rest (drop i counts) ≡ true
+none-left rest counts i h = ap (list_all length_in_range_lem) (lengths-end rest counts i h)
 
 -- a loop that fills a list with the lengths: those written and those that are left are all of them
-pub record Filling (texts counts entry list : List ℕ) (at i : ℕ) : Type 0 where
-  pub going : Going texts counts at i
-  pub left-good : list_all length_in_range_lem (lengths_left texts counts at i) ≡ true
-  pub so_far : take i list ++ lengths_left texts counts at i ≡ lengths_of counts texts
+pub record Filling (texts counts entry rest list : List ℕ) (i : ℕ) : Type 0 where
+  pub left : ReadableTexts rest (drop i counts)
+  pub left-good : all_in_range rest (drop i counts) ≡ true
+  pub so_far : take i list ++ lengths_of (drop i counts) rest ≡ lengths_of counts texts
   pub rest-kept : drop i list ≡ drop i entry
-  pub long : length list ≡ length entry
-  pub roomy : length counts ≤ length entry
 
-module _ (texts counts entry : List ℕ) where
-  pub filling-starts : ReadableTexts texts counts → list_all length_in_range_lem (lengths_of counts texts) ≡ true → length counts ≤ length entry
-      → Filling texts counts entry entry 0 0
-  filling-starts readable good roomy =
-      record { going = going-starts texts counts readable; left-good = good; so_far = refl; rest-kept = refl; long = refl; roomy = roomy }
+module _ (texts counts entry rest list : List ℕ) (i : ℕ) (filling : Filling texts counts entry rest list i) where
+  module _ (h : i < length counts) where
+    abbrev width : ℕ
+    width = text_width (take (get_or counts i 0) rest)
 
-  module _ (list : List ℕ) (at i : ℕ) (filling : Filling texts counts entry list at i) where
-    module _ (h : i < length counts) {text : List ℕ} (is : text ≡ text_at_lem texts counts at i) where
-      abbrev rest : List ℕ
-      rest = lengths_left texts counts (at + length text) (i + 1)
+    abbrev others : List ℕ
+    others = lengths_of (drop (i + 1) counts) (drop (get_or counts i 0) rest)
 
-      next-is : lengths_left texts counts at i ≡ text_width text ∷ rest
-      next-is = lengths-next texts counts at i filling.going h is
+    next-is : lengths_of (drop i counts) rest ≡ width ∷ others
+    next-is = lengths-next rest counts i filling.left h
 
-      next-good : list_all length_in_range_lem (text_width text ∷ rest) ≡ true
-      next-good = subst (λ (l : List ℕ). list_all length_in_range_lem l ≡ true) next-is filling.left-good
+    next-good : list_all length_in_range_lem (width ∷ others) ≡ true
+    next-good = subst (λ (l : List ℕ). list_all length_in_range_lem l ≡ true) next-is filling.left-good
 
-      -- the next length has room in a byte
-      pub next_small : text_width text ≤ most_length
-      next_small = (one-to most_length (text_width text) (first_good length_in_range_lem (text_width text) rest next-good)).1
+    -- the next length has room in a byte
+    pub next_small : width ≤ most_length
+    next_small = (one-to most_length width (first_good length_in_range_lem width others next-good)).1
 
-      -- it is written
-      pub filling-on : {w : ℕ} → w ≡ text_width text → Filling texts counts entry (set list i w) (at + length text) (i + 1)
-      filling-on {w} width_is =
-          let within : i < length list = omega (arith, filling.long, filling.roomy) in
-          record {
-            going = going_on texts counts at i filling.going h is;
-            left-good = rest-good length_in_range_lem (text_width text) rest next-good;
-            so_far =
-                rw (take_more i w list within, width_is) (append_snoc (take i list) (text_width text) rest)
-                ∙ ap (λ (l : List ℕ). take i list ++ l) (sym next-is) ∙ filling.so_far;
-            rest-kept = drop_more i w list entry filling.rest-kept;
-            long = length-set list i w ∙ filling.long;
-            roomy = filling.roomy;
-          }
+    -- it is written
+    pub filling-on : {w : ℕ} → w ≡ width → i < length list
+        → Filling texts counts entry (drop (get_or counts i 0) rest) (set list i w) (i + 1)
+    filling-on {w} width_is within =
+        record {
+          left = behind-readable rest counts i filling.left h;
+          left-good = rest-good length_in_range_lem width others next-good;
+          so_far =
+              rw (take_more i w list within, width_is) (append_snoc (take i list) width others)
+              ∙ ap (λ (l : List ℕ). take i list ++ l) (sym next-is) ∙ filling.so_far;
+          rest-kept = drop_more i w list entry filling.rest-kept;
+        }
 
-    pub filling-ends : i ≡ length counts → list ≡ written (lengths_of counts texts) entry
-    filling-ends e =
-        let none = lengths-end texts counts at i filling.going e in
-        let all = sym (append-nil (take i list)) ∙ ap (λ (l : List ℕ). take i list ++ l) (sym none) ∙ filling.so_far in
-        written-whole i list (lengths_of counts texts) entry all filling.rest-kept (length-lengths counts texts ∙ sym e)
+  pub filling-ends : length counts ≤ i → i ≤ length counts → list ≡ written (lengths_of counts texts) entry
+  filling-ends h e =
+      let none = lengths-end rest counts i h in
+      let all = sym (append-nil (take i list)) ∙ ap (λ (l : List ℕ). take i list ++ l) (sym none) ∙ filling.so_far in
+      written-whole i list (lengths_of counts texts) entry all filling.rest-kept (length-lengths counts texts ∙ omega arith)

@@ -1,16 +1,15 @@
 -- What the three calls settle: the number, the length or the count, and the length list at exit.
-use Rattle.std.specs.Prelude.{ℕ, ◌≡◌, Bool, List, [], ◌∷◌, eqb, length}
+use Rattle.std.specs.Prelude.{ℕ, ◌≡◌, Bool, List, [], ◌∷◌, eqb, length, Result, Ok, Err}
 use Rattle.geometry.specs.Lists.{sum_list}
 use Rattle.std.specs.List.{list_all}
 use Rattle.geometry.specs.Mark.{length_in_range_lem}
 use Rattle.geometry.specs.Strip.{most_marks}
-use Rattle.geometry.specs.Refusal.{Check, Verdict, accepted, refused, number_of, at_most, first_failure}
+use Rattle.geometry.specs.Refusal.{Check, Verdict, accepted, refused, refusal_number, number_of, at_most, first_failure}
+use Rattle.geometry.specs.declared.refusal.Refusal.{Refusal}
 use Rattle.geometry.specs.declared.refusal.Refusal.TheVariants.{ListsUnequal, TooManyMarks, BadMark, ListTooShort, StrayByte}
 use Rattle.geometry.specs.Pass.{written}
 use Rattle.font.specs.Letters.{in_font_lem}
 use Rattle.font.specs.Text.{text_width, IsLongest, longest_beginning_lem, lengths_of}
-use Rattle.font.specs.declared.answer.Measured.{Measured}
-use Rattle.font.specs.declared.answer.Beginning.{Beginning}
 
 -- "13, a byte outside 32 to 126, tested before the width": over all bytes that are handed over
 abbrev pub letter_check : List ℕ → Check
@@ -25,6 +24,16 @@ abbrev pub value_after : Verdict → ℕ → ℕ
 value_after accepted value = value
 value_after (refused r) value = 0
 
+-- what the call gives: a number and a length. "When an answer is an enum, a definition gives this paper's number and values for each of its
+-- cases."
+pub record Measured : Type 0 where
+  pub number : ℕ
+  pub length : ℕ
+
+abbrev pub measured_answer : Result ℕ Refusal → Measured
+measured_answer (Ok width) = record { number = 0; length = width }
+measured_answer (Err r) = record { number = refusal_number r; length = 0 }
+
 -- a text's length as a label: 13 over the whole text, then 8
 unfoldable pub measure_verdict : List ℕ → Verdict
 measure_verdict text = first_failure (letter_check text ∷ length_check (length_in_range_lem (text_width text)) ∷ [])
@@ -32,6 +41,15 @@ measure_verdict text = first_failure (letter_check text ∷ length_check (length
 pub record MeasureContract (text : List ℕ) (r : Measured) : Type 0 where
   pub number_is : r.number ≡ number_of (measure_verdict text)
   pub length-is : r.length ≡ value_after (measure_verdict text) (text_width text)
+
+-- a number and a count
+pub record Beginning : Type 0 where
+  pub number : ℕ
+  pub count : ℕ
+
+abbrev pub beginning_answer : Result ℕ Refusal → Beginning
+beginning_answer (Ok count) = record { number = 0; count = count }
+beginning_answer (Err r) = record { number = refusal_number r; count = 0 }
 
 -- "this call gives its count of bytes and refuses only by 13, over the whole text"
 unfoldable pub beginning_verdict : List ℕ → Verdict

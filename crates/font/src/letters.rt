@@ -7,11 +7,8 @@ const FIRST_BYTE: u8 = 32;
 
 const LAST_BYTE: u8 = 126;
 
-// A width for each byte of the font.
-pub type Widths = [u8; 95];
-
 // From the space on, each with its letter or sign.
-const WIDTHS: Widths = [
+const WIDTHS: [u8; 95] = [
     4, // space
     3, // !
     6, // "
@@ -115,18 +112,24 @@ pub fn in_font(byte: u8) -> bool
     FIRST_BYTE <= byte && byte <= LAST_BYTE
 }
 
-// The table as a value, which a call takes once and lends to all that look widths up: a constant that a loop names is stored anew in
-// each turn.
-pub fn table() -> Widths
-    ensures { is_font result ≡ true }
-{
-    WIDTHS
+// The table of the font, by the rule. A call makes it once and lends it to all that look widths up: a constant that a loop names is stored
+// anew in each turn.
+#[derive(Drop)]
+pub struct Font {
+    widths: [u8; 95],
+    ghost by_rule: { is_font widths ≡ true },
 }
 
-// The width of a byte by the table.
-pub fn width_in(widths: &Widths, byte: u8) -> u32
-    requires { (is_font widths.now ≡ true) × (in_font_lem byte ≡ true) }
-    ensures { result ≡ width_of byte }
-{
-    widths[byte as usize - FIRST_BYTE as usize] as u32
+impl Font {
+    pub fn new() -> Font {
+        Font { widths: WIDTHS }
+    }
+
+    // The width of a byte in dots.
+    pub fn width_of(&self, byte: u8) -> u32
+        requires { in_font_lem byte ≡ true }
+        ensures { result ≡ width_of byte }
+    {
+        self.widths[byte as usize - FIRST_BYTE as usize] as u32
+    }
 }

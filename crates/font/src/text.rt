@@ -4,9 +4,9 @@ ghost use Rattle.std.specs.List.{list_all};
 ghost use Rattle.font.specs.Letters.{in_font_lem};
 ghost use Rattle.font.specs.Text.{text_width, longest_beginning_lem};
 ghost use Rattle.font.specs.inner.Counts.{count_fits_lem, Readable};
-ghost use Rattle.font.specs.inner.Table.{is_font};
 
-use crate::letters::{Widths, in_font, width_in};
+use crate::letters::{Font, in_font};
+use geometry::entry::every_passes;
 use geometry::limits::MOST_LENGTH;
 
 // A text of more bytes is over 240 dots.
@@ -17,17 +17,10 @@ pub const SURE_BYTES: usize = 26;
 
 pub const MOST_WIDTH: u32 = MOST_LENGTH as u32;
 
-// A text is looked at whole, with no jump at a byte that fails, so that the compiler tests several bytes at once.
 pub fn all_in_font(text: &[u8]) -> bool
     ensures { result ≡ list_all in_font_lem text.now }
 {
-    let mut good = true;
-    let mut i = 0;
-    while i < text.len() {
-        good = good & in_font(text[i]);
-        i += 1;
-    }
-    good
+    every_passes(text, in_font)
 }
 
 // Whether a text of so many bytes may have a length from 1 to 240.
@@ -38,36 +31,32 @@ pub fn count_fits(count: usize) -> bool
 }
 
 // The width of a text of few bytes.
-pub fn width(widths: &Widths, text: &[u8]) -> u32
-    requires { (is_font widths.now ≡ true) × Readable text.now }
+pub fn width(font: &Font, text: &[u8]) -> u32
+    requires { Readable text.now }
     ensures { result ≡ text_width text.now }
 {
     let mut sum: u32 = 0;
-    let mut i = 0;
-    while i < text.len() {
-        sum += width_in(widths, text[i]);
-        i += 1;
+    for byte in text {
+        sum += font.width_of(*byte);
     }
     sum
 }
 
 // Behind the bytes that surely have room, goes on until the next would pass 240 dots, so no further than to the 81st.
-pub fn longest_beginning(widths: &Widths, text: &[u8]) -> usize
-    requires { (is_font widths.now ≡ true) × (list_all in_font_lem text.now ≡ true) }
+pub fn longest_beginning(font: &Font, text: &[u8]) -> usize
+    requires { list_all in_font_lem text.now ≡ true }
     ensures { result ≡ longest_beginning_lem text.now }
 {
     if text.len() <= SURE_BYTES {
         return text.len();
     }
-    let mut room = MOST_WIDTH - width(widths, &text[..SURE_BYTES]);
-    let mut i = SURE_BYTES;
-    while i < text.len() {
-        let next = width_in(widths, text[i]);
+    let mut room = MOST_WIDTH - width(font, &text[..SURE_BYTES]);
+    for i in SURE_BYTES..text.len() {
+        let next = font.width_of(text[i]);
         if room < next {
             return i;
         }
         room -= next;
-        i += 1;
     }
-    i
+    text.len()
 }

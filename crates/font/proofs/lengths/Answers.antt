@@ -1,23 +1,19 @@
 -- `font::lengths` meets its contract: a refusal changes nothing, and past the checks the list is filled.
-use native.Mathlib.Omega.{arith}
-use Rattle.font.proofs.Contract.{refused-texts, ready-to-fill, filled-texts}
+use mathlib.Core.Path.{sym}
+use Rattle.font.proofs.Contract.{accepted-parts, not-filled, filled-texts}
 use Rattle.font.proofs.lengths.Goals as goal
 
-pub check_texts-refused-requires : goal.check_texts-refused-requires
-check_texts-refused-requires c = c.table-widths.ensures
-
-pub returns-then-refused-ne0 : goal.returns-then-refused-ne0
-returns-then-refused-ne0 c =
+pub returns-in_err-check_texts : goal.returns-in_err-check_texts
+returns-in_err-check_texts c =
     let a = c.args in
-    refused-texts a.texts.now a.counts.now a.lengths.now c.check_texts-refused.ensures (λ zero. omega arith)
+    not-filled a.texts.now a.counts.now a.lengths.now _ _ c.from_residual.ensures.1 c.in_err-check_texts.ensures
 
 pub fill-requires : goal.fill-requires
 fill-requires c =
     let a = c.args in
-    let ready = ready-to-fill a.texts.now a.counts.now a.lengths.now c.check_texts-refused.ensures (omega arith) in
-    (c.table-widths.ensures, ready.0, ready.1, ready.2)
+    accepted-parts a.texts.now a.counts.now _ (sym c.in_ok-check_texts.ensures)
 
 pub returns : goal.returns
 returns c =
     let a = c.args in
-    filled-texts a.texts.now a.counts.now a.lengths.now c.check_texts-refused.ensures (omega arith) c.fill.ensures
+    filled-texts a.texts.now a.counts.now a.lengths.now c.in_ok-check_texts.ensures c.fill.ensures

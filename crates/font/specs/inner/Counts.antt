@@ -1,5 +1,5 @@
 -- What the count of a text's bytes says of its length, since every letter is 3 to 9 dots wide.
-use Rattle.std.specs.Prelude.{ℕ, ◌≤◌, ◌≡◌, Bool, true, ◌&&◌, List, leb, length, get_or, take, drop}
+use Rattle.std.specs.Prelude.{ℕ, ◌≤◌, ◌≡◌, Bool, true, ◌&&◌, List, leb, length}
 use Rattle.geometry.specs.Lists.{sum_list}
 use Rattle.std.specs.List.{list_all}
 use Rattle.font.specs.Letters.{in_font_lem}
@@ -22,13 +22,3 @@ pub record ReadableTexts (texts counts : List ℕ) : Type 0 where
   pub adds-up : sum_list counts ≡ length texts
   pub letters-good : list_all in_font_lem texts ≡ true
   pub counts-good : list_all count_fits_lem counts ≡ true
-
--- the same in a loop that has passed i of the texts, and with them `at` bytes
-pub record Going (texts counts : List ℕ) (at i : ℕ) : Type 0 where
-  pub passed : i ≤ length counts
-  pub within : at ≤ length texts
-  pub left : ReadableTexts (drop at texts) (drop i counts)
-
--- the next text
-abbrev pub text_at_lem : List ℕ → List ℕ → ℕ → ℕ → List ℕ
-text_at_lem texts counts at i = take (get_or counts i 0) (drop at texts)

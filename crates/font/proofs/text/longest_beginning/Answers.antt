@@ -1,13 +1,12 @@
 -- `font::text::longest_beginning` meets its contract: few bytes surely have room, and behind the first of more the bytes so far and those
 -- that still have room are the longest beginning.
-use mathlib.Core.Path.{◌≡◌, sym}
+use mathlib.Core.Path.{◌≡◌, sym, ◌∙◌}
 use mathlib.Core.List.{List}
 use Prim.Native.Nat.{ℕ, ◌≤◌}
 use native.Mathlib.Omega.{arith}
 use lib.ListN.{length, take}
 use lib.Seq.{length-take-le}
 use Rattle.geometry.specs.Mark.{most_length}
-use Rattle.geometry.proofs.Accepted.{every-at}
 use Rattle.geometry.proofs.Every.{every_take}
 use Rattle.font.specs.Letters.{in_font_lem}
 use Rattle.font.specs.Text.{text_width}
@@ -34,26 +33,24 @@ pub width-room-requires : goal.width-room-requires
 width-room-requires c =
     let text = c.args.text.now in
     let few = sure-long text (omega arith) in
-    (c.requires.0, record { letters-good = every_take in_font_lem sure_bytes text c.requires.1; few = omega (arith, few) })
+    record { letters-good = every_take in_font_lem sure_bytes text c.requires; few = omega (arith, few) }
 
 pub overflow_sub-room : goal.overflow_sub-room
 overflow_sub-room c = omega (arith, c.width-room.ensures, sure-fit c.args.text.now (omega arith))
 
 pub loop-i-init : goal.loop-i-init
-loop-i-init c =
-    (omega arith, room-starts _ sure_bytes _ (omega arith) (sure-fit c.args.text.now (omega arith)) (omega (arith, c.width-room.ensures)))
-
-pub width_in-next-requires : goal.width_in-next-requires
-width_in-next-requires c = (c.requires.0, every-at in_font_lem _ 0 c.loop-i.i c.requires.1 (omega arith))
+loop-i-init c = room-starts _ sure_bytes _ (omega arith) (sure-fit c.args.text.now (omega arith)) (omega (arith, c.width-room.ensures))
 
 pub returns-then-room-next : goal.returns-then-room-next
 returns-then-room-next c =
-    room-none _ c.loop-i.i c.loop-i.room c.loop-i.invariant.1 (omega arith) (omega (arith, c.width_in-next.ensures))
+    room-none _ c.loop-i.i c.loop-i.room c.loop-i.invariant (omega arith) (omega (arith, c.width_of-next.ensures))
 
 pub loop-i-preserved : goal.loop-i-preserved
 loop-i-preserved c =
-    let width = c.width_in-next.ensures in
-    (omega arith, rw width (room_next _ c.loop-i.i c.loop-i.room c.loop-i.invariant.1 (omega arith) (omega (arith, width))))
+    let width = c.width_of-next.ensures in
+    rw width (room_next _ c.loop-i.i c.loop-i.room c.loop-i.invariant (omega arith) (omega (arith, width)))
 
 pub returns : goal.returns
-returns c = room-ends _ c.loop-i.i c.loop-i.room c.loop-i.invariant.1 (omega arith)
+returns c =
+    let end : c.loop-i.i ≡ length c.args.text.now = omega arith in
+    sym end ∙ room-ends _ c.loop-i.i c.loop-i.room c.loop-i.invariant end

@@ -1,12 +1,7 @@
 -- `font::text::longest_beginning` meets its contract: few bytes surely have room, and behind the first of more the bytes so far and those
 -- that still have room are the longest beginning.
-use Prim.Native.Nat.{◌≤◌, ◌-◌}
-use lib.ListN.{length}
 use Rattle.font.proofs.Beginnings.{WithRoom}
 use Rattle.font.proofs.text.longest_beginning.Given as goal
 
 abbrev pub invariant-loop-i : goal.invariant-loop-i
-invariant-loop-i l = (l.i ≤ length l.text) × WithRoom l.text l.i l.room
-
-abbrev pub decreases-loop-i : goal.decreases-loop-i
-decreases-loop-i l = length l.text - l.i
+invariant-loop-i l = WithRoom l.text l.i l.room

@@ -1,18 +1,13 @@
 -- `font::texts::all_fit` meets its contract: where the texts so far fit, those that are left decide.
 use mathlib.Core.Path.{◌≡◌}
-use Prim.Native.Nat.{◌-◌}
-use lib.ListN.{length}
-use Rattle.std.specs.List.{list_all}
-use Rattle.geometry.specs.Mark.{length_in_range_lem}
-use Rattle.font.specs.Text.{lengths_of}
-use Rattle.font.specs.inner.Counts.{Going}
-use Rattle.font.proofs.Going.{lengths_left}
+use lib.ListN.{drop}
+use Rattle.font.specs.inner.Counts.{ReadableTexts}
+use Rattle.font.proofs.Going.{all_in_range}
 use Rattle.font.proofs.texts.all_fit.Given as goal
 
-abbrev pub invariant-loop-i : goal.invariant-loop-i
-invariant-loop-i l =
-    Going l.texts l.counts l.at l.i
-    × (list_all length_in_range_lem (lengths_of l.counts l.texts) ≡ list_all length_in_range_lem (lengths_left l.texts l.counts l.at l.i))
-
-abbrev pub decreases-loop-i : goal.decreases-loop-i
-decreases-loop-i l = length l.counts - l.i
+abbrev pub invariant-loop-count : goal.invariant-loop-count
+invariant-loop-count l =
+    record {
+      left : ReadableTexts l.rest (drop l.count-index l.counts);
+      decide : all_in_range l.texts l.counts ≡ all_in_range l.rest (drop l.count-index l.counts);
+    }

@@ -1,86 +1,64 @@
--- `font::texts::check_texts` meets its contract: the checks of the lists come first, then those of the bytes and the counts, and where
--- these are passed those of the lengths decide.
-use mathlib.Core.Path.{◌≡◌, refl}
-use mathlib.Core.List.{[], ◌∷◌}
-use native.Mathlib.Omega.{arith}
-use lib.Dec.{eqb}
-use lib.ListN.{length}
-use borrow.Author.Tests.{le-leb, leb-true}
-use Rattle.geometry.specs.Lists.{sum_list}
-use Rattle.std.specs.List.{list_all}
-use Rattle.geometry.specs.Mark.{length_in_range_lem}
-use Rattle.geometry.specs.Strip.{most_marks}
-use Rattle.geometry.specs.Refusal.{at_most}
+-- `font::texts::check_texts` meets its contract: each check made stands for that of its number, and the first that refuses decides.
+use mathlib.Core.Path.{refl, sym, ◌∙◌}
 use Rattle.geometry.specs.declared.refusal.Refusal.TheVariants.{ListsUnequal, TooManyMarks, BadMark, ListTooShort, StrayByte}
-use Rattle.geometry.specs.inner.Checks.{number_of_checks}
-use Rattle.geometry.proofs.Verdicts.{count-number}
-use Rattle.font.specs.Letters.{in_font_lem}
-use Rattle.font.specs.Text.{lengths_of}
-use Rattle.font.specs.Calls.{sum_check, letter_check, length_check}
-use Rattle.font.specs.inner.Counts.{count_fits_lem}
-use Rattle.font.proofs.Contract.{of_lists, of_bytes, refused-lists, refused-bytes, readable-texts, lengths-decide}
+use Rattle.geometry.proofs.Verdicts.{handed-on, one-made}
+use Rattle.font.proofs.Contract.{texts-in-turn, readable-texts}
 use Rattle.font.proofs.texts.check_texts.Goals as goal
-use Rattle.font.proofs.texts.check_texts.Lts
-use Rattle.font.proofs.texts.check_texts.Tie as tie
-use Rattle.font.proofs.texts.check_texts.Reads as reads
 
-abbrev At-After-first_refusal-listed : Type 0
-At-After-first_refusal-listed = Lts.After-first_refusal tie.the-claims reads.Pre reads.Post
-
-abbrev At-After-first_refusal-read : Type 0
-At-After-first_refusal-read = Lts.After-first_refusal2 tie.the-claims reads.Pre reads.Post
-
--- the lists are compared, and what came
-lists-are : (c : At-After-first_refusal-listed)
-    → c.first_refusal-listed.result ≡ number_of_checks (of_lists c.args.texts.now c.args.counts.now c.args.room)
-lists-are c =
-    let texts = c.args.texts.now in
-    let counts = c.args.counts.now in
-    let six = c.check-adds.ensures (eqb (sum_list counts) (length texts)) ListsUnequal c.counts_add_up.ensures refl in
-    let seven = count-number (length counts) most_marks TooManyMarks c.check.ensures (omega (arith, leb-true, le-leb)) in
-    c.first_refusal-listed.ensures (sum_check texts counts ∷ []) (at_most (length counts) most_marks TooManyMarks ∷ [])
-    (omega (arith, six)) (omega (arith, seven))
-
--- the bytes and the counts are looked at, and what was passed before
-abbrev compared : At-After-first_refusal-read → At-After-first_refusal-listed
-compared l = let passed = let read = l.before.before.before in read.before.before in passed.before
-
-bytes-are : (c : At-After-first_refusal-read)
-    → c.first_refusal-read.result ≡ number_of_checks (of_bytes c.args.texts.now c.args.counts.now c.args.room)
-bytes-are c =
-    let texts = c.args.texts.now in
-    let counts = c.args.counts.now in
-    let thirteen = c.check-letters.ensures (list_all in_font_lem texts) StrayByte c.all_in_font.ensures refl in
-    let eight = c.check-2.ensures (list_all count_fits_lem counts) BadMark c.counts_fit.ensures refl in
-    c.first_refusal-read.ensures (letter_check texts ∷ []) (length_check (list_all count_fits_lem counts) ∷ [])
-    (omega (arith, thirteen)) (omega (arith, eight))
-
-pub returns-then-listed-ne0 : goal.returns-then-listed-ne0
-returns-then-listed-ne0 c =
+pub returns-in_err-check : goal.returns-in_err-check
+returns-in_err-check c =
     let a = c.args in
-    refused-lists a.texts.now a.counts.now a.room (lists-are c.before.before) c.if-listed-ne0.true
+    let six = one-made ListsUnequal c.in_err-check.ensures c.counts_add_up.ensures in
+    handed-on _ _ c.from_residual.ensures.1 ∙ sym (texts-in-turn a.texts.now a.counts.now a.room six refl refl refl refl refl)
 
-pub returns-then-read-ne0 : goal.returns-then-read-ne0
-returns-then-read-ne0 c =
+pub returns-in_err-check-2 : goal.returns-in_err-check-2
+returns-in_err-check-2 c =
     let a = c.args in
-    let l = c.before.before in
-    refused-bytes a.texts.now a.counts.now a.room (lists-are (compared l)) c.if-listed-ne0.false (bytes-are l) c.if-read-ne0.true
+    let six = one-made ListsUnequal c.in_ok-check.ensures c.counts_add_up.ensures in
+    let seven = one-made TooManyMarks c.in_err-check-2.ensures refl in
+    handed-on _ _ c.from_residual-in_err-check-2.ensures.1 ∙ sym (texts-in-turn a.texts.now a.counts.now a.room six seven refl refl refl refl)
+
+pub returns-in_err-check-3 : goal.returns-in_err-check-3
+returns-in_err-check-3 c =
+    let a = c.args in
+    let six = one-made ListsUnequal c.in_ok-check.ensures c.counts_add_up.ensures in
+    let seven = one-made TooManyMarks c.in_ok-check-2.ensures refl in
+    let letters = one-made StrayByte c.in_err-check-3.ensures c.all_in_font.ensures in
+    handed-on _ _ c.from_residual-in_err-check-3.ensures.1 ∙ sym (texts-in-turn a.texts.now a.counts.now a.room six seven letters refl refl refl)
+
+pub returns-in_err-check-4 : goal.returns-in_err-check-4
+returns-in_err-check-4 c =
+    let a = c.args in
+    let six = one-made ListsUnequal c.in_ok-check.ensures c.counts_add_up.ensures in
+    let seven = one-made TooManyMarks c.in_ok-check-2.ensures refl in
+    let letters = one-made StrayByte c.in_ok-check-3.ensures c.all_in_font.ensures in
+    let few = one-made BadMark c.in_err-check-4.ensures c.counts_fit.ensures in
+    handed-on _ _ c.from_residual-in_err-check-4.ensures.1 ∙ sym (texts-in-turn a.texts.now a.counts.now a.room six seven letters few refl refl)
 
 pub all_fit-requires : goal.all_fit-requires
 all_fit-requires c =
     let a = c.args in
-    let l = c.before.before in
-    (c.requires, readable-texts a.texts.now a.counts.now a.room (lists-are (compared l)) c.if-listed-ne0.false (bytes-are l) c.if-read-ne0.false)
+    let six = one-made ListsUnequal c.in_ok-check.ensures c.counts_add_up.ensures in
+    let letters = one-made StrayByte c.in_ok-check-3.ensures c.all_in_font.ensures in
+    readable-texts a.texts.now a.counts.now a.room six letters (one-made BadMark c.in_ok-check-4.ensures c.counts_fit.ensures)
+
+pub returns-in_err-check-5 : goal.returns-in_err-check-5
+returns-in_err-check-5 c =
+    let a = c.args in
+    let six = one-made ListsUnequal c.in_ok-check.ensures c.counts_add_up.ensures in
+    let seven = one-made TooManyMarks c.in_ok-check-2.ensures refl in
+    let letters = one-made StrayByte c.in_ok-check-3.ensures c.all_in_font.ensures in
+    let few = one-made BadMark c.in_ok-check-4.ensures c.counts_fit.ensures in
+    let range = one-made BadMark c.in_err-check-5.ensures c.all_fit.ensures in
+    handed-on _ _ c.from_residual-in_err-check-5.ensures.1 ∙ sym (texts-in-turn a.texts.now a.counts.now a.room six seven letters few range refl)
 
 pub returns : goal.returns
 returns c =
-    let texts = c.args.texts.now in
-    let counts = c.args.counts.now in
-    let room = c.args.room in
-    let passed = let fitted = c.before.before.before in fitted.before.before in
-    let l = passed.before in
-    let eight = c.check-measured.ensures (list_all length_in_range_lem (lengths_of counts texts)) BadMark c.all_fit.ensures refl in
-    let nine = count-number (length counts) room ListTooShort c.check-3.ensures (omega (arith, leb-true, le-leb)) in
-    lengths-decide texts counts room (lists-are (compared l)) c.if-listed-ne0.false (bytes-are l) c.if-read-ne0.false
-    (c.first_refusal.ensures (length_check (list_all length_in_range_lem (lengths_of counts texts)) ∷ [])
-    (at_most (length counts) room ListTooShort ∷ []) (omega (arith, eight)) (omega (arith, nine)))
+    let a = c.args in
+    let six = one-made ListsUnequal c.in_ok-check.ensures c.counts_add_up.ensures in
+    let seven = one-made TooManyMarks c.in_ok-check-2.ensures refl in
+    let letters = one-made StrayByte c.in_ok-check-3.ensures c.all_in_font.ensures in
+    let few = one-made BadMark c.in_ok-check-4.ensures c.counts_fit.ensures in
+    let range = one-made BadMark c.in_ok-check-5.ensures c.all_fit.ensures in
+    let nine = one-made ListTooShort c.check-6.ensures refl in
+    sym (texts-in-turn a.texts.now a.counts.now a.room six seven letters few range nine)

@@ -11,12 +11,12 @@ use Rattle.font.proofs.texts.counts_add_up.Goals as goal
 pub returns-then-left-count : goal.returns-then-left-count
 returns-then-left-count c =
     let counts = c.args.counts.now in
-    sym (ne_eqb (sum_list counts) c.args.bytes (omega (arith, sum-next counts c.loop-i.i (omega arith))))
+    sym (ne_eqb (sum_list counts) c.args.bytes (omega (arith, sum-next counts c.loop-count.count-index (omega arith))))
 
-pub loop-i-preserved : goal.loop-i-preserved
-loop-i-preserved c = omega (arith, sum-next c.args.counts.now c.loop-i.i (omega arith))
+pub loop-count-preserved : goal.loop-count-preserved
+loop-count-preserved c = omega (arith, sum-next c.args.counts.now c.loop-count.count-index (omega arith))
 
 pub returns : goal.returns
 returns c =
     let a = c.args in
-    is-eqb (sum_list a.counts.now) a.bytes (omega (arith, eqb-true, eq-eqb, sum-ends a.counts.now c.loop-i.i (omega arith)))
+    is-eqb (sum_list a.counts.now) a.bytes (omega (arith, eqb-true, eq-eqb, sum-ends a.counts.now c.loop-count.count-index (omega arith)))

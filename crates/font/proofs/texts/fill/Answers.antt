@@ -1,36 +1,26 @@
 -- `font::texts::fill` meets its contract: the lengths written so far and those that are left are the lengths of all texts.
+use mathlib.Core.Path.{ap, ◌∙◌}
 use native.Mathlib.Omega.{arith}
-use Rattle.font.proofs.Going.{text-readable, text-within, filling-starts, next_small, filling-on, filling-ends}
+use Rattle.font.specs.Text.{text_width}
+use Rattle.font.proofs.Going.{next-within, text-readable, next_small, filling-on, filling-ends}
 use Rattle.font.proofs.texts.fill.Goals as goal
 
-pub loop-i-init : goal.loop-i-init
-loop-i-init c = filling-starts _ _ _ c.requires.1 c.requires.2 c.requires.3
-
-pub text_at-text-requires : goal.text_at-text-requires
-text_at-text-requires c = (c.loop-i.invariant.going, c.loop-i-test.true)
+pub split_at-requires : goal.split_at-requires
+split_at-requires c = next-within _ _ _ c.loop-i.invariant.left c.loop-i-test.true
 
 pub width-requires : goal.width-requires
-width-requires c =
-    let a = c.args in
-    (c.requires.0, text-readable a.texts.now a.counts.now _ _ c.loop-i.invariant.going c.loop-i-test.true c.text_at-text.ensures)
+width-requires c = rw c.split_at.ensures.front (text-readable _ _ _ c.loop-i.invariant.left c.loop-i-test.true)
 
 pub overflow_cast-lengths : goal.overflow_cast-lengths
 overflow_cast-lengths c =
-    let a = c.args in
-    let small = next_small a.texts.now a.counts.now _ _ _ _ c.loop-i.invariant c.loop-i-test.true c.text_at-text.ensures in
-    omega (arith, c.width.ensures, small)
-
-pub bounds-lengths-i : goal.bounds-lengths-i
-bounds-lengths-i c = omega (arith, c.loop-i.invariant.long, c.loop-i.invariant.roomy)
-
-pub overflow_add-at : goal.overflow_add-at
-overflow_add-at c =
-    let a = c.args in
-    omega (arith, text-within a.texts.now a.counts.now _ _ c.loop-i.invariant.going c.loop-i-test.true c.text_at-text.ensures)
+    let width_is = c.width.ensures ∙ ap text_width c.split_at.ensures.front in
+    let small = next_small _ _ _ _ _ _ c.loop-i.invariant c.loop-i-test.true in
+    omega (arith, width_is, small)
 
 pub loop-i-preserved : goal.loop-i-preserved
 loop-i-preserved c =
-    filling-on c.args.texts.now c.args.counts.now _ _ _ _ c.loop-i.invariant c.loop-i-test.true c.text_at-text.ensures c.width.ensures
+    let width_is = c.width.ensures ∙ ap text_width c.split_at.ensures.front in
+    rw c.split_at.ensures.back (filling-on _ _ _ _ _ _ c.loop-i.invariant c.loop-i-test.true width_is (omega arith))
 
 pub returns : goal.returns
-returns c = filling-ends _ _ _ _ _ _ c.loop-i.invariant (omega arith)
+returns c = filling-ends _ _ _ _ _ _ c.loop-i.invariant (omega arith) (omega arith)

@@ -12,9 +12,9 @@ use Rattle.font.proofs.texts.text_fits.Goals as goal
 pub returns-then-text-le-SURE_BYTES : goal.returns-then-text-le-SURE_BYTES
 returns-then-text-le-SURE_BYTES c =
     let text = c.args.text.now in
-    le-leb (length text) sure_bytes (omega arith) ∙ sym (sure-of-few text c.requires.2 (omega arith))
+    le-leb (length text) sure_bytes (omega arith) ∙ sym (sure-of-few text c.requires.1 (omega arith))
 
 pub returns-else-text-le-SURE_BYTES : goal.returns-else-text-le-SURE_BYTES
 returns-else-text-le-SURE_BYTES c =
     let text = c.args.text.now in
-    is-leb (text_width text) most_length (omega (arith, leb-true, le-leb, c.width.ensures)) ∙ sym (range-of-some text c.requires.2)
+    is-leb (text_width text) most_length (omega (arith, leb-true, le-leb, c.width.ensures)) ∙ sym (range-of-some text c.requires.1)
