@@ -19,7 +19,9 @@ impl Answer<'_> {
 
     // The index of mark `i` in the list: how many left-out marks belong before it.
     fn index_of(self, i: usize) -> usize {
-        (0..8).filter(|&j| self.belongs_before(j, i)).count()
+        (0..self.positions.len())
+            .filter(|&j| self.belongs_before(j, i))
+            .count()
     }
 
     // Whether mark `i` stands at its index if it is at 0; behind the last mark the positions are as they were.
@@ -28,7 +30,7 @@ impl Answer<'_> {
         if self.weights.len() <= i {
             return position == lists::UNWRITTEN;
         }
-        position != 0 || lists::at(self.left_out, self.index_of(i)) as usize == i + 1
+        position != 0 || usize::from(lists::at(self.left_out, self.index_of(i))) == i + 1
     }
 
     // Whether element `i` of the list is as it was if it lies behind the used part.
@@ -58,5 +60,5 @@ pub fn is_left_out_list(
         left_out,
     };
     answer.has_count(count)
-        && (0..8).all(|i| answer.mark_agrees(i) && answer.entry_agrees(count, i))
+        && (0..positions.len()).all(|i| answer.mark_agrees(i) && answer.entry_agrees(count, i))
 }

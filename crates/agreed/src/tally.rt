@@ -41,6 +41,7 @@ impl Group {
     }
 }
 
+// The same for a count that is handed on, for a group whose name comes with its line.
 pub fn counted(count: u32, test: bool) -> u32 {
     count.wrapping_add(u32::from(test))
 }

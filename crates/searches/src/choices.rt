@@ -5,6 +5,8 @@
 
 ghost use Rattle.std.specs.Prelude.{◌≤◌};
 
+use crate::strip::MOST;
+
 // What a digit says.
 #[derive(Clone, Copy)]
 pub enum Model {
@@ -19,7 +21,7 @@ pub enum Model {
 }
 
 // The digits of a choice, 0 behind the last mark.
-pub type Digits = [u8; 8];
+pub type Digits = [u8; MOST];
 
 impl Model {
     // The greatest digit; sliding has labels of at most 7 dots.

@@ -1,5 +1,5 @@
 // Strips drawn from pseudo-random numbers.
-ghost use Rattle.std.specs.Prelude.{◌≡◌, ◌<◌, ◌≤◌, length};
+ghost use Rattle.std.specs.Prelude.{◌<◌};
 
 use crate::strip::{Drawn, MOST, Mark};
 

@@ -23,6 +23,32 @@ impl Outcome {
     }
 }
 
+// How many strips of a group agree, and in how many every mark has a label.
+#[derive(Clone, Copy)]
+struct Strips {
+    group: Group,
+    whole: u32,
+}
+
+impl Strips {
+    fn new(name: &'static str) -> Strips {
+        let group = Group::new(name);
+        Strips { group, whole: 0 }
+    }
+
+    fn count(&mut self, outcome: Outcome) {
+        let is_whole = outcome == Outcome::AgreesWhole;
+        self.group.count(outcome != Outcome::Disagrees);
+        self.whole = self.whole.wrapping_add(u32::from(is_whole));
+    }
+
+    fn print(&self) {
+        let whole = self.whole;
+        self.group.print();
+        let _ = writeln!(Output, "  every mark labelled in {whole}");
+    }
+}
+
 // The line for a strip on which a pass of this group disagrees: the gap, and place, length and weight of each mark.
 fn print_strip(group: &str, drawn: &Drawn) {
     let gap = drawn.gap;
@@ -30,7 +56,7 @@ fn print_strip(group: &str, drawn: &Drawn) {
     for mark in drawn.marks() {
         let _ = write!(Output, " {mark},");
     }
-    let _ = writeln!(Output, "");
+    let _ = writeln!(Output);
 }
 
 // How many strips a group has: 500 at each gap.
@@ -43,7 +69,7 @@ fn gap_of(strip: u32) -> u8 {
     (strip % GAPS) as u8
 }
 
-// The strips from a seed on.
+// A group: the strips from a seed on, each given to what compares a pass with the search.
 pub fn random<F: Fn(&Drawn) -> Outcome + Drop>(
     name: &'static str,
     seed: u64,
@@ -53,17 +79,14 @@ pub fn random<F: Fn(&Drawn) -> Outcome + Drop>(
     requires { F.IsAlwaysCallable compared }
 {
     let mut source = Source::new(seed);
-    let mut group = Group::new(name);
-    let mut whole = 0u32;
+    let mut strips = Strips::new(name);
     for strip in 0..STRIPS {
         let drawn = draw.strip(&mut source, gap_of(strip));
         let outcome = compared(&drawn);
         if outcome == Outcome::Disagrees {
             print_strip(name, &drawn);
         }
-        group.count(outcome != Outcome::Disagrees);
-        whole = whole.wrapping_add(u32::from(outcome == Outcome::AgreesWhole));
+        strips.count(outcome);
     }
-    group.print();
-    let _ = writeln!(Output, "  every mark labelled in {whole}");
+    strips.print();
 }

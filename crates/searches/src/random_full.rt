@@ -22,7 +22,7 @@ impl Answer {
             Ok(None) => {
                 self.number == refusal::NO_PLACING && self.positions == [lists::UNWRITTEN; 8]
             }
-            Err(_) => false,
+            Err(search::Unfinished) => false,
         }
     }
 }

@@ -55,7 +55,7 @@ impl Answer {
     fn is_found(&self, model: Model, drawn: &Drawn) -> bool {
         match search::first_placing(model, drawn) {
             Ok(found) => found.is_some() == self.fits(),
-            Err(_) => false,
+            Err(search::Unfinished) => false,
         }
     }
 

@@ -1,7 +1,7 @@
 // A plain search through all choices.
 use crate::choices::{Digits, Model};
 use crate::labels;
-use crate::strip::Drawn;
+use crate::strip::{Drawn, MOST};
 
 // The turns of a search were used up.
 #[derive(Clone, Copy)]
@@ -25,7 +25,7 @@ fn go_on(model: Model, digits: &mut [u8], k: usize) -> bool {
 // The first choice that is a placing at the strip's gap.
 pub fn first_placing(model: Model, drawn: &Drawn) -> Placing {
     let n = drawn.marks().len();
-    let mut digits = [0; 8];
+    let mut digits = [0; MOST];
     for _ in 0..TURNS {
         let Some(k) = labels::clash(model, drawn, &digits) else {
             return Ok(Some(digits));

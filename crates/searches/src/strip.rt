@@ -1,5 +1,5 @@
 // Pseudo-random strips of up to 6 marks.
-ghost use Rattle.std.specs.Prelude.{◌≡◌, ◌<◌, ◌≤◌, length};
+ghost use Rattle.std.specs.Prelude.{◌≤◌, length};
 
 use std::fmt;
 

@@ -1,7 +1,7 @@
 // The weights that the labels of a choice of the model Best earn.
 use crate::choices::Model;
 use crate::labels;
-use crate::strip::{Drawn, Mark};
+use crate::strip::{Drawn, MOST, Mark};
 
 // The weight of a mark if it has a label.
 fn earned(mark: &Mark, digit: u8) -> u32 {
@@ -34,7 +34,7 @@ fn offered(drawn: &Drawn, digits: &[u8], greatest: u32) -> u32 {
 // The greatest sum of a choice that is overlap-free at the strip's gap.
 pub fn greatest_sum(drawn: &Drawn) -> u32 {
     let n = drawn.marks().len();
-    let mut digits = [0; 8];
+    let mut digits = [0; MOST];
     let mut greatest = 0;
     for _ in 0..Model::Best.choices(n) {
         greatest = offered(drawn, &digits, greatest);
