@@ -3,4 +3,5 @@
 
 pub mod left_out;
 pub mod lists;
+pub mod output;
 pub mod tally;

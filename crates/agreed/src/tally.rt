@@ -1,96 +1,78 @@
-// How many comparisons of a group agreed so far, and the lines that it prints. A comparison that disagrees is not counted, and
+// How many comparisons of a group agree so far, and the lines that it prints. A comparison that disagrees is not counted, and
 // prints a line of its own.
+use crate::output::Output;
+use std::fmt::{Display, Write};
 
-// The number of standard output.
-const STDOUT_FILENO: i32 = 1;
+#[derive(Clone, Copy)]
+pub struct Group {
+    name: &'static str,
+    agreed: u32,
+}
 
-// What a random strip shows of a pass: it disagrees, or agrees, or agrees and has a label for every mark.
-pub const DISAGREES: u8 = 0;
-
-pub const AGREES: u8 = 1;
-
-pub const AGREES_WHOLE: u8 = 2;
-
-pub fn outcome(agrees: bool, is_whole: bool) -> u8 {
-    if !agrees {
-        return DISAGREES;
+impl Group {
+    pub fn new(name: &'static str) -> Group {
+        Group { name, agreed: 0 }
     }
-    if is_whole { AGREES_WHOLE } else { AGREES }
+
+    // Counts a comparison if it agrees.
+    pub fn count(&mut self, agrees: bool) {
+        self.agreed = self.agreed.wrapping_add(u32::from(agrees));
+    }
+
+    // A case with a value for its answer.
+    pub fn same<T: Copy + PartialEq + Display>(&mut self, case: u32, got: T, wanted: T) {
+        let agrees = got == wanted;
+        if !agrees {
+            let _ = writeln!(Output, "case {case} gives {got} and not {wanted}");
+        }
+        self.count(agrees);
+    }
+
+    // A case that must hold.
+    pub fn holds(&mut self, case: u32, is_so: bool) {
+        self.same(case, u8::from(is_so), 1);
+    }
+
+    // The line of the group.
+    pub fn print(&self) {
+        let name = self.name;
+        let agreed = self.agreed;
+        let _ = writeln!(Output, "{name} {agreed} agree");
+    }
 }
 
-fn one_if(test: bool) -> u32 {
-    if test { 1 } else { 0 }
-}
-
-// One more if the test holds.
+// The same for a count that is handed on, for a group whose name comes with its line.
 pub fn counted(count: u32, test: bool) -> u32 {
-    std::num::wrapping_add_u32(count, one_if(test))
+    count.wrapping_add(u32::from(test))
 }
 
-pub fn print(text: &[u8]) {
-    io::write_all(STDOUT_FILENO, text);
-}
-
-// A text and a number behind it.
-pub fn print_number(text: &[u8], number: u64) {
-    io::write_all(STDOUT_FILENO, text);
-    io::print_decimal(STDOUT_FILENO, number);
-}
-
-// The line for a case that disagrees.
-fn print_case(case: u32, got: u64, wanted: u64) {
-    print_number(b"case ", case as u64);
-    print_number(b" gives ", got);
-    print_number(b" and not ", wanted);
-    print(b"\n");
-}
-
-// The count after a case with a number for its answer.
-pub fn same(agreed: u32, case: u32, got: u64, wanted: u64) -> u32 {
-    if got != wanted {
-        print_case(case, got, wanted);
-        return agreed;
-    }
-    std::num::wrapping_add_u32(agreed, 1)
+fn same<T: Copy + PartialEq + Display>(agreed: u32, case: u32, got: T, wanted: T) -> u32 {
+    let mut group = Group { name: "", agreed };
+    group.same(case, got, wanted);
+    group.agreed
 }
 
 pub fn same_byte(agreed: u32, case: u32, got: u8, wanted: u8) -> u32 {
-    same(agreed, case, got as u64, wanted as u64)
+    same(agreed, case, got, wanted)
 }
 
 pub fn same_number(agreed: u32, case: u32, got: u32, wanted: u32) -> u32 {
-    same(agreed, case, got as u64, wanted as u64)
+    same(agreed, case, got, wanted)
 }
 
 pub fn same_count(agreed: u32, case: u32, got: usize, wanted: usize) -> u32 {
-    same(agreed, case, got as u64, wanted as u64)
+    same(agreed, case, got, wanted)
 }
 
-// The count after a case that must hold.
 pub fn holds(agreed: u32, case: u32, is_so: bool) -> u32 {
-    same_number(agreed, case, one_if(is_so), 1)
+    same(agreed, case, u8::from(is_so), 1)
 }
 
-// The line of a group.
 pub fn print_group(name: &[u8], agreed: u32) {
-    print(name);
-    print_number(b" ", agreed as u64);
-    print(b" agree\n");
+    io::write_all(1, name);
+    let _ = writeln!(Output, " {agreed} agree");
 }
 
-// Whether a list begins with these bytes.
 pub fn begins_with(list: &[u8], wanted: &[u8]) -> bool {
-    if list.len() < wanted.len() {
-        return false;
-    }
-    let mut i = 0;
-    while i < wanted.len() {
-        if i < list.len() {
-            if list[i] != wanted[i] {
-                return false;
-            }
-        }
-        i += 1;
-    }
-    true
+    list.starts_with(wanted)
 }

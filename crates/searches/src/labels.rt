@@ -1,153 +1,127 @@
 // The labels of a choice, and whether two of them overlap.
-ghost use Rattle.std.specs.Prelude.{◌≤◌};
+use crate::choices::Model;
+use crate::strip::{Drawn, MOST, Mark};
 
-use crate::choices;
-use crate::strip::MOST;
-use agreed::lists;
+#[derive(Clone, Copy, PartialEq, Eq)]
+enum Side {
+    Above,
+    Below,
+}
 
 // A label as an open span on a side. The ends are counted in half dots from 256 dots left of dot 0.
 #[derive(Clone, Copy)]
 struct Span {
-    side: u8,
+    side: Side,
     left: u32,
     right: u32,
 }
 
-const ABOVE: u8 = 0;
-
-const BELOW: u8 = 1;
-
-// The sides of a mark without a label, and of a digit that the model does not have.
-const NONE: u8 = 2;
-
-const WRONG: u8 = 3;
-
-// The position that a digit of the model FULL stands for.
-pub fn ranked(digit: u8) -> u8 {
-    if digit == 0 {
-        return 2;
-    }
-    if digit == 1 {
-        return 3;
-    }
-    if digit == 2 {
-        return 1;
-    }
-    4
+// How a digit labels a mark.
+#[derive(Clone, Copy)]
+enum Label {
+    Absent,
+    Lies(Span),
+    // The model does not have the digit.
+    Unknown,
 }
 
-// The label that lies so many half dots right of its leftmost edge; it may lie as far right as it is long.
-fn slid_label(dot: u8, length: u8, side: u8, half_dots: u32) -> Span
-    requires { half_dots ≤ 510 }
-{
-    let left = 2 * (dot as u32 + 256 - length as u32) + half_dots;
-    let width = 2 * length as u32;
-    Span {
-        side: if half_dots <= width { side } else { WRONG },
-        left,
-        right: left + width,
+impl Span {
+    fn shares_more(self, other: Span) -> bool {
+        self.left < other.right && other.left < self.right
+    }
+
+    // Whether the other lies to the right with fewer than so many dots between them.
+    fn is_near(self, other: Span, gap: u8) -> bool {
+        self.right <= other.left && other.left - self.right < 2 * u32::from(gap)
+    }
+
+    // Whether both are on one side, and share more than an end point, or fewer than `gap` dots lie between their nearer ends.
+    fn overlaps(self, other: Span, gap: u8) -> bool {
+        self.side == other.side
+            && (self.shares_more(other) || self.is_near(other, gap) || other.is_near(self, gap))
     }
 }
 
-// The side of a position, or of none at 0.
-fn side_of(position: u8) -> u8 {
-    if position == 0 {
-        return NONE;
-    }
-    if 4 < position {
-        return WRONG;
-    }
-    if position <= 2 { ABOVE } else { BELOW }
-}
-
-// The label at one of the four positions, or none at 0: 2 and 3 have it leftmost, 1 and 4 rightmost.
-fn at_position(dot: u8, length: u8, position: u8) -> Span {
-    let side = side_of(position);
-    if position == 2 || position == 3 {
-        return slid_label(dot, length, side, 0);
-    }
-    slid_label(dot, length, side, 2 * length as u32)
-}
-
-fn label(model: u32, dot: u8, length: u8, digit: u8) -> Span {
-    if model == choices::FULL {
-        return at_position(dot, length, ranked(digit));
-    }
-    if model == choices::BEST {
-        return at_position(dot, length, digit);
-    }
-    let slid = digit as u32 / 2;
-    if model == choices::HALVES {
-        return slid_label(dot, length, digit % 2, slid);
-    }
-    slid_label(dot, length, digit % 2, 2 * slid)
-}
-
-// The label of mark `i`.
-fn label_of(model: u32, dots: &[u8], lengths: &[u8], digits: &[u8], i: usize) -> Span {
-    label(
-        model,
-        lists::at(dots, i),
-        lists::at(lengths, i),
-        lists::at(digits, i),
-    )
-}
-
-fn share_more(a: Span, b: Span) -> bool {
-    a.left < b.right && b.left < a.right
-}
-
-// Whether b lies to the right of a with fewer than so many dots between them.
-fn is_near(a: Span, b: Span, gap: u8) -> bool {
-    if b.left < a.right {
-        return false;
-    }
-    b.left - a.right < 2 * gap as u32
-}
-
-// Whether two labels overlap: both are there, on one side, and their spans share more than an end point, or fewer than `gap` dots lie
-// between their nearer ends.
-fn overlap(a: Span, b: Span, gap: u8) -> bool {
-    a.side == b.side
-        && a.side != NONE
-        && (share_more(a, b) || is_near(a, b, gap) || is_near(b, a, gap))
-}
-
-// Whether the label of mark `later` is none that the model has, or overlaps that of the mark `earlier`.
-fn is_wrong(
-    model: u32,
-    dots: &[u8],
-    lengths: &[u8],
-    gap: u8,
-    digits: &[u8],
-    earlier: usize,
-    later: usize,
-) -> bool {
-    let b = label_of(model, dots, lengths, digits, later);
-    if b.side == WRONG {
-        return true;
-    }
-    if later <= earlier {
-        return false;
-    }
-    overlap(label_of(model, dots, lengths, digits, earlier), b, gap)
-}
-
-// Pairs of marks, in any order.
-const PAIRS: usize = MOST * MOST;
-
-// The first of the marks, counted from 0, whose label overlaps that of an earlier mark or is none that the model has; their number
-// if there is no such mark. All pairs are tested.
-pub fn clash(model: u32, dots: &[u8], lengths: &[u8], gap: u8, digits: &[u8; 8]) -> usize {
-    let mut pair = 0;
-    while pair < PAIRS {
-        let later = pair / MOST;
-        if later < dots.len() {
-            if is_wrong(model, dots, lengths, gap, digits, pair % MOST, later) {
-                return later;
-            }
+impl Label {
+    // The label that lies so many half dots right of its leftmost edge; it may lie as far right as it is long.
+    fn slid(mark: Mark, side: Side, half_dots: u32) -> Label {
+        let width = 2 * u32::from(mark.length);
+        if width < half_dots {
+            return Label::Unknown;
         }
-        pair += 1;
+        let left = 2 * (u32::from(mark.dot) + 256) - width + half_dots;
+        Label::Lies(Span {
+            side,
+            left,
+            right: left + width,
+        })
     }
-    dots.len()
+
+    // The label at one of the four positions, or none at 0: 2 and 3 have it leftmost, 1 and 4 rightmost.
+    fn at_position(mark: Mark, position: u8) -> Label {
+        let width = 2 * u32::from(mark.length);
+        match position {
+            0 => Label::Absent,
+            1 => Label::slid(mark, Side::Above, width),
+            2 => Label::slid(mark, Side::Above, 0),
+            3 => Label::slid(mark, Side::Below, 0),
+            4 => Label::slid(mark, Side::Below, width),
+            _ => Label::Unknown,
+        }
+    }
+
+    fn new(model: Model, mark: Mark, digit: u8) -> Label {
+        let side = if digit % 2 == 0 {
+            Side::Above
+        } else {
+            Side::Below
+        };
+        let slid = u32::from(digit / 2);
+        match model {
+            Model::Full => Label::at_position(mark, ranked(digit)),
+            Model::Best => Label::at_position(mark, digit),
+            Model::Slide => Label::slid(mark, side, 2 * slid),
+            Model::Halves => Label::slid(mark, side, slid),
+        }
+    }
+
+    // Whether the model does not have the label, or it overlaps one of these.
+    fn clashes(self, earlier: &[Label], gap: u8) -> bool {
+        match self {
+            Label::Absent => false,
+            Label::Lies(span) => earlier.iter().any(|other| other.overlaps(span, gap)),
+            Label::Unknown => true,
+        }
+    }
+
+    fn overlaps(self, span: Span, gap: u8) -> bool {
+        match self {
+            Label::Lies(other) => span.overlaps(other, gap),
+            _ => false,
+        }
+    }
+}
+
+// The position that a digit of the model Full stands for.
+pub fn ranked(digit: u8) -> u8 {
+    match digit {
+        0 => 2,
+        1 => 3,
+        2 => 1,
+        _ => 4,
+    }
+}
+
+fn labels(model: Model, drawn: &Drawn, digits: &[u8]) -> [Label; MOST] {
+    let mut labels = [Label::Absent; MOST];
+    for (label, (mark, digit)) in labels.iter_mut().zip(drawn.marks().iter().zip(digits)) {
+        *label = Label::new(model, *mark, *digit);
+    }
+    labels
+}
+
+// The first of the marks, counted from 0, whose label overlaps that of an earlier mark or is none that the model has.
+pub fn clash(model: Model, drawn: &Drawn, digits: &[u8]) -> Option<usize> {
+    let labels = labels(model, drawn, digits);
+    (0..MOST).find(|&k| labels[k].clashes(&labels[..k], drawn.gap))
 }

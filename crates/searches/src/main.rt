@@ -3,6 +3,7 @@
 #![tactic(auto)]
 
 mod choices;
+mod draw;
 mod labels;
 mod leftmost;
 mod random;
@@ -15,7 +16,7 @@ mod slid;
 mod strip;
 mod sums;
 
-use strip::Draw;
+use draw::Draw;
 
 // Strips of up to 6 marks: at gap 0 some one in six of them cannot have a label for every mark, at gap 8 more than half.
 fn random_corners() {
@@ -24,8 +25,8 @@ fn random_corners() {
         shortest: 1,
         spread: 24,
     };
-    random::random(b"full random", choices::FULL, 1, draw);
-    random::random(b"best random", choices::BEST, 2, draw);
+    random::random("full random", 1, draw, random_full::compared);
+    random::random("best random", 2, draw, random_best::compared);
 }
 
 // Marks side by side with labels longer than all of them lie apart: of 6 marks two or more are left out.
@@ -35,7 +36,7 @@ fn random_crowds() {
         shortest: 12,
         spread: 24,
     };
-    random::random(b"best random, crowded", choices::BEST, 5, crowd);
+    random::random("best random, crowded", 5, crowd, random_best::compared);
 }
 
 // Labels of up to 4 dots, with which 6 marks always fit at gap 0, and of 4 to 7.
@@ -45,13 +46,13 @@ fn random_slides() {
         shortest: 1,
         spread: 4,
     };
-    random::random(b"slide random", choices::SLIDE, 3, short);
+    random::random("slide random", 3, short, random_slide::compared);
     let long = Draw {
         steps: 2,
         shortest: 4,
         spread: 4,
     };
-    random::random(b"slide random, long labels", choices::SLIDE, 4, long);
+    random::random("slide random, long labels", 4, long, random_slide::compared);
 }
 
 // Labels of 1 to 6 cells, with which each width from 1 to 30 is found, and of 1 to 12, of which many have room at widths at which they
@@ -62,13 +63,18 @@ fn random_letters() {
         shortest: 1,
         spread: 6,
     };
-    random::random(b"largest random", choices::LARGEST, 6, short);
+    random::random("largest random", 6, short, random_largest::compared);
     let long = Draw {
         steps: 12,
         shortest: 1,
         spread: 12,
     };
-    random::random(b"largest random, long labels", choices::LARGEST, 7, long);
+    random::random(
+        "largest random, long labels",
+        7,
+        long,
+        random_largest::compared,
+    );
 }
 
 fn main() {

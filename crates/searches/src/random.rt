@@ -1,116 +1,62 @@
 // Random strips, on each of which a pass must agree, at a gap of 0 to 8 dots, with a plain search through all choices.
-ghost use Rattle.std.specs.Prelude.{◌≤◌, length};
+use crate::draw::{Draw, Source};
+use crate::strip::Drawn;
+use agreed::output::Output;
+use agreed::tally::Group;
+use std::fmt::Write;
 
-use crate::strip::{Draw, MOST};
-use crate::{choices, random_best, random_full, random_largest, random_slide, strip};
-use agreed::tally;
-
-// What a strip shows of the model's pass.
-fn shown_by(
-    model: u32,
-    dots: &[u8],
-    places: &[i16],
-    lengths: &[u8],
-    weights: &[u16],
-    gap: u8,
-) -> u8 {
-    if model == choices::FULL {
-        return random_full::compared(dots, places, lengths, weights, gap);
-    }
-    if model == choices::BEST {
-        return random_best::compared(dots, places, lengths, weights, gap);
-    }
-    if model == choices::LARGEST {
-        return random_largest::compared(dots, places, lengths, weights, gap);
-    }
-    random_slide::compared(dots, places, lengths, weights, gap)
+// What a strip shows of a pass: it disagrees, or agrees, or agrees and has a label for every mark.
+#[derive(Clone, Copy, PartialEq, Eq)]
+pub enum Outcome {
+    Disagrees,
+    Agrees,
+    AgreesWhole,
 }
 
-// The same for the first `n` marks of the lists.
-fn shown_by_first(
-    model: u32,
-    n: usize,
-    dots: &[u8],
-    places: &[i16],
-    lengths: &[u8],
-    weights: &[u16],
-    gap: u8,
-) -> u8
-    requires { (n ≤ length dots.now) × (n ≤ length places.now) × (n ≤ length lengths.now) × (n ≤ length weights.now) }
-{
-    shown_by(
-        model,
-        &dots[..n],
-        &places[..n],
-        &lengths[..n],
-        &weights[..n],
-        gap,
-    )
+impl Outcome {
+    pub fn new(agrees: bool, is_whole: bool) -> Outcome {
+        match (agrees, is_whole) {
+            (false, _) => Outcome::Disagrees,
+            (true, false) => Outcome::Agrees,
+            (true, true) => Outcome::AgreesWhole,
+        }
+    }
+}
+
+// How many strips of a group agree, and in how many every mark has a label.
+#[derive(Clone, Copy)]
+struct Strips {
+    group: Group,
+    whole: u32,
+}
+
+impl Strips {
+    fn new(name: &'static str) -> Strips {
+        let group = Group::new(name);
+        Strips { group, whole: 0 }
+    }
+
+    fn count(&mut self, outcome: Outcome) {
+        let is_whole = outcome == Outcome::AgreesWhole;
+        self.group.count(outcome != Outcome::Disagrees);
+        self.whole = self.whole.wrapping_add(u32::from(is_whole));
+    }
+
+    fn print(&self) {
+        let whole = self.whole;
+        self.group.print();
+        let _ = writeln!(Output, "  every mark labelled in {whole}");
+    }
 }
 
 // The line for a strip on which a pass of this group disagrees: the gap, and place, length and weight of each mark.
-fn print_strip(group: &[u8], n: usize, dots: &[u8], lengths: &[u8], weights: &[u16], gap: u8) {
-    tally::print(group);
-    tally::print_number(b" disagrees at gap ", gap as u64);
-    tally::print(b" on");
-    strip::print_marks(n, dots, lengths, weights);
-    tally::print(b"\n");
-}
-
-// What the first `n` marks show, with a line if the pass disagrees.
-fn compared(
-    group: &[u8],
-    model: u32,
-    n: usize,
-    dots: &[u8; MOST],
-    places: &[i16; MOST],
-    lengths: &[u8; MOST],
-    weights: &[u16; MOST],
-    gap: u8,
-) -> u8
-    requires { n ≤ 6 }
-{
-    let shown = shown_by_first(model, n, dots, places, lengths, weights, gap);
-    if shown == tally::DISAGREES {
-        print_strip(group, n, dots, lengths, weights, gap);
+fn print_strip(group: &str, drawn: &Drawn) {
+    let gap = drawn.gap;
+    let _ = write!(Output, "{group} disagrees at gap {gap} on");
+    for mark in drawn.marks() {
+        let _ = write!(Output, " {mark},");
     }
-    shown
-}
-
-// What a strip shows, and the seed of the next.
-#[derive(Clone, Copy)]
-struct Shown {
-    outcome: u8,
-    seed: u64,
-}
-
-// The strip that follows a seed, at a gap.
-fn drawn(group: &[u8], model: u32, seed: u64, draw: Draw, gap: u8) -> Shown {
-    let mut dots = [0u8; MOST];
-    let mut places = [0i16; MOST];
-    let mut lengths = [0u8; MOST];
-    let mut weights = [0u16; MOST];
-    let first = strip::next(seed);
-    let last = strip::set_marks(
-        first,
-        draw,
-        &mut dots,
-        &mut places,
-        &mut lengths,
-        &mut weights,
-    );
-    let n = strip::count_from(first);
-    Shown {
-        outcome: compared(group, model, n, &dots, &places, &lengths, &weights, gap),
-        seed: last,
-    }
-}
-
-// The lines of a group: how many strips agree, and in how many every mark has a label.
-fn print_random(group: &[u8], agreed: u32, whole: u32) {
-    tally::print_group(group, agreed);
-    tally::print_number(b"  list_all mark labelled in ", whole as u64);
-    tally::print(b"\n");
+    let _ = writeln!(Output);
 }
 
 // How many strips a group has: 500 at each gap.
@@ -120,21 +66,27 @@ const GAPS: u32 = 9;
 
 // The gap of a strip: 0 to 8 in turn.
 fn gap_of(strip: u32) -> u8 {
-    (strip % GAPS % 256) as u8
+    (strip % GAPS) as u8
 }
 
-// The strips from a seed on.
-pub fn random(group: &[u8], model: u32, seed: u64, draw: Draw) {
-    let mut agreed = 0;
-    let mut whole = 0;
-    let mut from = seed;
-    let mut i = 0;
-    while i < STRIPS {
-        let shown = drawn(group, model, from, draw, gap_of(i));
-        agreed = tally::counted(agreed, shown.outcome != tally::DISAGREES);
-        whole = tally::counted(whole, shown.outcome == tally::AGREES_WHOLE);
-        from = shown.seed;
-        i += 1;
+// A group: the strips from a seed on, each given to what compares a pass with the search.
+pub fn random<F: Fn(&Drawn) -> Outcome + Drop>(
+    name: &'static str,
+    seed: u64,
+    draw: Draw,
+    compared: F,
+)
+    requires { F.IsAlwaysCallable compared }
+{
+    let mut source = Source::new(seed);
+    let mut strips = Strips::new(name);
+    for strip in 0..STRIPS {
+        let drawn = draw.strip(&mut source, gap_of(strip));
+        let outcome = compared(&drawn);
+        if outcome == Outcome::Disagrees {
+            print_strip(name, &drawn);
+        }
+        strips.count(outcome);
     }
-    print_random(group, agreed, whole);
+    strips.print();
 }

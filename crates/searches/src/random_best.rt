@@ -1,56 +1,69 @@
 // The best pass on random strips: the greatest sum over all overlap-free choices, that the listed choice is overlap-free and
 // earns the sum, and the left-out list.
-use crate::{choices, labels, sums};
-use agreed::{left_out, lists, tally};
-use best::answer::Best;
+use crate::choices::Model;
+use crate::random::Outcome;
+use crate::strip::Drawn;
+use crate::{labels, sums};
+use agreed::{left_out, lists};
 
-// Whether the positions are an overlap-free choice that earns this sum, and it is the greatest.
-fn earns(
-    dots: &[u8],
-    lengths: &[u8],
-    weights: &[u16],
-    gap: u8,
-    positions: &[u8; 8],
+// What the pass hands back.
+#[derive(Clone, Copy)]
+struct Answer {
+    number: u8,
     sum: u32,
-) -> bool {
-    if labels::clash(choices::BEST, dots, lengths, gap, positions) < dots.len() {
-        return false;
-    }
-    if sums::sum_of(weights, positions) != sum {
-        return false;
-    }
-    sums::greatest_sum(dots, lengths, weights, gap) == sum
+    count: usize,
+    positions: [u8; 8],
+    left_out: [u16; 8],
 }
 
-// Whether all that the pass gave is right.
-fn agrees(
-    dots: &[u8],
-    lengths: &[u8],
-    weights: &[u16],
-    gap: u8,
-    positions: &[u8; 8],
-    left_out: &[u16; 8],
-    best: Best,
-) -> bool {
-    best.number == 0
-        && earns(dots, lengths, weights, gap, positions, best.sum)
-        && left_out::is_left_out_list(positions, weights, left_out, best.count)
+impl Answer {
+    // Whether the positions are an overlap-free choice that earns the sum, and it is the greatest.
+    fn earns(&self, drawn: &Drawn) -> bool {
+        labels::clash(Model::Best, drawn, &self.positions).is_none()
+            && sums::sum_of(drawn, &self.positions) == self.sum
+            && sums::greatest_sum(drawn) == self.sum
+    }
+
+    // Whether all that the pass gave is right.
+    fn agrees(&self, drawn: &Drawn) -> bool {
+        let lists = drawn.lists();
+        self.number == 0
+            && self.earns(drawn)
+            && left_out::is_left_out_list(
+                &self.positions,
+                lists.weights(),
+                &self.left_out,
+                self.count,
+            )
+    }
 }
 
-// One strip.
-pub fn compared(dots: &[u8], places: &[i16], lengths: &[u8], weights: &[u16], gap: u8) -> u8 {
+// The call of the pass.
+fn answered(drawn: &Drawn) -> Answer {
+    let lists = drawn.lists();
     let mut positions = [lists::UNWRITTEN; 8];
     let mut left_out = [lists::UNWRITTEN_NUMBER; 8];
     let mut work = [0u32; best::WORK_NAMED];
     let best = best::best(
-        places,
-        lengths,
-        weights,
-        gap,
+        lists.places(),
+        lists.lengths(),
+        lists.weights(),
+        drawn.gap,
         &mut positions,
         &mut left_out,
         &mut work,
     );
-    let agreed = agrees(dots, lengths, weights, gap, &positions, &left_out, best);
-    tally::outcome(agreed, best.count == 0)
+    Answer {
+        number: best.number,
+        sum: best.sum,
+        count: best.count,
+        positions,
+        left_out,
+    }
+}
+
+// One strip.
+pub fn compared(drawn: &Drawn) -> Outcome {
+    let answer = answered(drawn);
+    Outcome::new(answer.agrees(drawn), answer.count == 0)
 }

@@ -1,0 +1,73 @@
+// Strips drawn from pseudo-random numbers.
+ghost use Rattle.std.specs.Prelude.{◌<◌};
+
+use crate::strip::{Drawn, MOST, Mark};
+
+// The multiplicative generator with modulus 2^31 − 1.
+#[derive(Clone, Copy)]
+pub struct Source {
+    seed: u64,
+}
+
+impl Source {
+    pub fn new(seed: u64) -> Source {
+        Source { seed }
+    }
+
+    // A number below `n`.
+    fn below(&mut self, n: u8) -> u8
+        requires { 0 < n }
+        ensures { result < n }
+    {
+        self.seed = self.seed % 2147483647 * 48271 % 2147483647;
+        (self.seed / 64 % u64::from(n)) as u8
+    }
+
+    // Often the least or the greatest weight, so that equal ones are many.
+    fn weight(&mut self) -> u16 {
+        match self.below(9) {
+            0..=2 => 1,
+            3..=5 => 1000,
+            other => u16::from(other),
+        }
+    }
+}
+
+// What marks are drawn from: steps of 1 to `steps` dots, and one of `spread` lengths from `shortest` on.
+#[derive(Clone, Copy)]
+pub struct Draw {
+    pub steps: u8,
+    pub shortest: u8,
+    pub spread: u8,
+    ghost moves: { 0 < steps },
+    ghost spreads: { 0 < spread },
+}
+
+impl Draw {
+    // The mark behind the one at a dot.
+    fn mark(self, source: &mut Source, before: u8) -> Mark {
+        let step = source.below(self.steps);
+        let more = source.below(self.spread);
+        Mark {
+            dot: before.wrapping_add(1).wrapping_add(step),
+            length: self.shortest.wrapping_add(more),
+            weight: source.weight(),
+        }
+    }
+
+    // The next strip.
+    pub fn strip(self, source: &mut Source, gap: u8) -> Drawn {
+        let count = usize::from(source.below(7));
+        let mut dot = 40;
+        let mut all = [Mark {
+            dot,
+            length: 0,
+            weight: 0,
+        }; MOST];
+        for mark in all.iter_mut() {
+            *mark = self.mark(source, dot);
+            dot = mark.dot;
+        }
+        Drawn::new(all, count, gap)
+    }
+}
