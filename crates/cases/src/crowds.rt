@@ -6,7 +6,7 @@ use crate::tally::Tally;
 use agreed::{left_out, lists};
 
 // The best pass must give this sum and leave out these three marks, in this order, and write no fourth.
-fn leaves_out(tally: &mut Tally, case: u32, strip: Strip, sum: u64, [a, b, c]: [u16; 3]) {
+fn leaves_out(tally: &mut Tally, case: u32, strip: Strip, sum: u32, [a, b, c]: [u16; 3]) {
     let mut list = [lists::UNWRITTEN_NUMBER; 12];
     let got = passes::best(
         strip,
@@ -16,9 +16,7 @@ fn leaves_out(tally: &mut Tally, case: u32, strip: Strip, sum: u64, [a, b, c]: [
         &mut [0; best::WORK_NAMED],
     );
     tally.same_number(case, &got, &Ok(()));
-    let choice = got.unwrap_or(Choice { sum: 0, count: 0 });
-    tally.same(case, u64::from(choice.sum), sum);
-    tally.same(case, choice.count as u64, 3);
+    passes::same_choice(tally, case, got, Choice { sum, count: 3 });
     tally.holds(case, list.starts_with(&[a, b, c, lists::UNWRITTEN_NUMBER]));
 }
 
@@ -47,7 +45,7 @@ fn long_labels(tally: &mut Tally) {
 
 // Eight marks side by side, of which no more than four find room. The best pass must give this sum, and list the other four by the
 // positions that it gives.
-fn crowd(tally: &mut Tally, case: u32, weights: [u16; 8], sum: u64) {
+fn crowd(tally: &mut Tally, case: u32, weights: [u16; 8], sum: u32) {
     let strip = Strip {
         places: &[0, 1, 2, 3, 4, 5, 6, 7],
         lengths: &[10; 8],
@@ -62,10 +60,8 @@ fn crowd(tally: &mut Tally, case: u32, weights: [u16; 8], sum: u64) {
         &mut list,
         &mut [0; best::WORK_NAMED],
     );
-    let choice = got.unwrap_or(Choice { sum: 0, count: 0 });
-    tally.same(case, u64::from(choice.sum), sum);
-    tally.same(case, choice.count as u64, 4);
-    let is_list = left_out::is_left_out_list(&positions, &weights, &list, choice.count);
+    passes::same_choice(tally, case, got, Choice { sum, count: 4 });
+    let is_list = left_out::is_left_out_list(&positions, &weights, &list, 4);
     tally.holds(case, is_list);
 }
 

@@ -1,5 +1,5 @@
 // Job bytes: strip 14, strip 11's job with each of its truncations, and each boundary of the reader and the writer.
-use crate::lent::first;
+use crate::lists::first;
 use crate::passes;
 use crate::strip::Strip;
 use crate::tally::Tally;

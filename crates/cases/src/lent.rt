@@ -1,14 +1,9 @@
 // Answer lists and work areas that are too short by one, or just long enough, for a strip of three marks; 12 comes before 9 and 10.
+use crate::lists::first;
 use crate::passes;
 use crate::tally::Tally;
 
 const PLACES: [i16; 3] = [0, 1, 2];
-
-// The first so many elements of a list, all if it has no more.
-pub fn first<T>(list: &mut [T], count: usize) -> &mut [T] {
-    let lent = count.min(list.len());
-    &mut list[..lent]
-}
 
 // A gap and the lengths of the lent lists, with what a pass must give.
 type Lent<Lengths> = (u32, u8, Lengths, Result<(), u8>);

@@ -9,6 +9,7 @@ mod gaps;
 mod jobs;
 mod lent;
 mod listings;
+mod lists;
 mod passes;
 mod ranges;
 mod strip;

@@ -1,8 +1,8 @@
 // What each pass gives for a strip and a gap, and what the writer gives for a strip; and strips for which they must give one and the same.
+use crate::lists::is_written;
 use crate::strip::Strip;
-use crate::tally;
 use crate::tally::Tally;
-use agreed::lists;
+use agreed::lists::UNWRITTEN;
 
 // A sum of weights, and a count of marks that are left out.
 #[derive(Clone, Copy)]
@@ -17,12 +17,15 @@ fn done(number: u8) -> Result<(), u8> {
 }
 
 pub fn full(strip: Strip, gap: u8, positions: &mut [u8], work: &mut [i16]) -> Result<(), u8> {
-    let Strip {
-        places,
-        lengths,
-        weights,
-    } = strip;
-    done(full::full(places, lengths, weights, gap, positions, work))
+    let number = full::full(
+        strip.places,
+        strip.lengths,
+        strip.weights,
+        gap,
+        positions,
+        work,
+    );
+    done(number)
 }
 
 pub fn slide(
@@ -32,12 +35,16 @@ pub fn slide(
     edges: &mut [i16],
     work: &mut [u16],
 ) -> Result<(), u8> {
-    let Strip {
-        places,
-        lengths,
-        weights,
-    } = strip;
-    done(slide::slide(places, lengths, weights, gap, sides, edges, work))
+    let number = slide::slide(
+        strip.places,
+        strip.lengths,
+        strip.weights,
+        gap,
+        sides,
+        edges,
+        work,
+    );
+    done(number)
 }
 
 pub fn best(
@@ -47,12 +54,15 @@ pub fn best(
     left_out: &mut [u16],
     work: &mut [u32],
 ) -> Result<Choice, u8> {
-    let Strip {
-        places,
-        lengths,
-        weights,
-    } = strip;
-    let got = best::best(places, lengths, weights, gap, positions, left_out, work);
+    let got = best::best(
+        strip.places,
+        strip.lengths,
+        strip.weights,
+        gap,
+        positions,
+        left_out,
+        work,
+    );
     done(got.number)?;
     Ok(Choice {
         sum: got.sum,
@@ -132,10 +142,17 @@ pub fn calls_give(tally: &mut Tally, case: u32, strip: Strip, wanted: Wanted) {
 
 // The full pass must write these positions, or be refused and write none.
 pub fn full_gives(tally: &mut Tally, case: u32, strip: Strip, gap: u8, wanted: Result<&[u8], u8>) {
-    let mut positions = [lists::UNWRITTEN; 8];
+    let mut positions = [UNWRITTEN; 8];
     let got = full(strip, gap, &mut positions, &mut [0; full::WORK_NAMED]);
     tally.same_number(case, &got, &wanted);
-    tally.holds(case, tally::is_written(&positions, wanted.unwrap_or(&[])));
+    tally.holds(case, is_written(&positions, wanted.unwrap_or(&[])));
+}
+
+// Two comparisons: of the sum of weights, and of the count of left-out marks; both are 0 at a refusal.
+pub fn same_choice(tally: &mut Tally, case: u32, got: Result<Choice, u8>, wanted: Choice) {
+    let choice = got.unwrap_or(Choice { sum: 0, count: 0 });
+    tally.same(case, u64::from(choice.sum), u64::from(wanted.sum));
+    tally.same(case, choice.count as u64, wanted.count as u64);
 }
 
 // A strip of up to 8 marks, with labels of 10 dots and weight 1. More places would be refused with 6.

@@ -15,14 +15,6 @@ pub type Worked<'a> = (
     Option<(u32, usize)>,
 );
 
-fn best_gives(tally: &mut Tally, case: u32, strip: Strip, gap: u8, sum: u32, count: usize) {
-    let got = passes::any_best(strip, gap);
-    tally.same_number(case, &got, &Ok(()));
-    let choice = got.unwrap_or(Choice { sum: 0, count: 0 });
-    tally.same(case, u64::from(choice.sum), u64::from(sum));
-    tally.same(case, choice.count as u64, count as u64);
-}
-
 pub fn all_give(tally: &mut Tally, cases: &[Worked]) {
     for &(case, gap, places, full, slide, best) in cases {
         let strip = passes::even(places);
@@ -33,7 +25,9 @@ pub fn all_give(tally: &mut Tally, cases: &[Worked]) {
             tally.same_number(case, &passes::any_slide(strip, gap), &wanted);
         }
         if let Some((sum, count)) = best {
-            best_gives(tally, case, strip, gap, sum, count);
+            let got = passes::any_best(strip, gap);
+            tally.same_number(case, &got, &Ok(()));
+            passes::same_choice(tally, case, got, Choice { sum, count });
         }
     }
 }
@@ -80,7 +74,7 @@ pub fn leaves_out(
     gap: u8,
     last: i16,
     weights: [u16; 5],
-    sum: u64,
+    sum: u32,
     mark: u16,
 ) {
     let strip = Strip {
@@ -96,9 +90,7 @@ pub fn leaves_out(
         &mut left_out,
         &mut [0; best::WORK_NAMED],
     );
-    let choice = got.unwrap_or(Choice { sum: 0, count: 0 });
-    tally.same(case, u64::from(choice.sum), sum);
-    tally.same(case, choice.count as u64, 1);
+    passes::same_choice(tally, case, got, Choice { sum, count: 1 });
     tally.same(case, u64::from(left_out[0]), u64::from(mark));
 }
 

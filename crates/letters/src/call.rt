@@ -1,8 +1,8 @@
 // One call with what it must give: number, width, position list and work area.
+use crate::lists::{first, is_written};
 use crate::strip::Strip;
-use crate::tally;
 use crate::tally::Tally;
-use agreed::lists;
+use agreed::lists::UNWRITTEN;
 
 // What stands in the work area before a call, which has elements behind its named part.
 const USED: i16 = 7;
@@ -59,20 +59,20 @@ pub const ALL: Lent = Lent {
     work: WHOLE,
 };
 
-// The call with these parts of both. More than there is of one would not be counted.
+// The call with these parts of both.
 pub fn gives_with(tally: &mut Tally, case: u32, strip: Strip, gap: u8, lent: Lent, wanted: Wanted) {
-    let mut positions = [lists::UNWRITTEN; 8];
+    let mut positions = [UNWRITTEN; 8];
     let mut work = [USED; WHOLE];
-    if let (Some(position_list), Some(work_area)) = (
-        positions.get_mut(..lent.positions),
-        work.get_mut(..lent.work),
-    ) {
-        let got = largest(strip, gap, position_list, work_area);
-        tally.same_answer(case, got, wanted.map(|(width, _)| width));
-        let written = wanted.map_or(&[] as &[u8], |(_, positions)| positions);
-        tally.holds(case, tally::is_written(&positions, written));
-        tally.holds(case, is_left_so(&work, &wanted));
-    }
+    let got = largest(
+        strip,
+        gap,
+        first(&mut positions, lent.positions),
+        first(&mut work, lent.work),
+    );
+    tally.same_answer(case, got, wanted.map(|(width, _)| width));
+    let written = wanted.map_or(&[] as &[u8], |(_, positions)| positions);
+    tally.holds(case, is_written(&positions, written));
+    tally.holds(case, is_left_so(&work, &wanted));
 }
 
 // The same with all of both.

@@ -2,6 +2,7 @@
 #![tactic(auto)]
 
 mod call;
+mod lists;
 mod refusals;
 mod strip;
 mod tally;

@@ -1,19 +1,11 @@
 // A group of cases: how many comparisons of it agree so far, and the line that says so.
-use agreed::{lists, tally};
+use agreed::tally;
 
 // The number of an answer: 0, or that of the refusal.
-pub fn number<T>(answer: &Result<T, u8>) -> u8 {
+fn number<T>(answer: &Result<T, u8>) -> u8 {
     match answer {
         Ok(_) => 0,
         Err(refusal) => *refusal,
-    }
-}
-
-// Whether a list begins with these bytes, and is as it was behind them.
-pub fn is_written(list: &[u8], wanted: &[u8]) -> bool {
-    match list.strip_prefix(wanted) {
-        Some(rest) => rest.iter().all(|&byte| byte == lists::UNWRITTEN),
-        None => false,
     }
 }
 
@@ -31,7 +23,7 @@ impl Tally {
         self.agreed = tally::holds(self.agreed, case, is_so);
     }
 
-    // Whether a call is refused, and by which number.
+    // One comparison: of the numbers, which are 0 where a call is not refused.
     pub fn same_number<T, U>(&mut self, case: u32, got: &Result<T, u8>, wanted: &Result<U, u8>) {
         self.same(case, u64::from(number(got)), u64::from(number(wanted)));
     }

@@ -1,7 +1,7 @@
 // The length list of texts in one byte list: what is written, each refusal, and the order of two refusals.
-use crate::tally;
+use crate::lists::{first, is_written};
 use crate::tally::Tally;
-use agreed::lists;
+use agreed::lists::UNWRITTEN;
 
 // Writes the lengths of texts, or is refused.
 fn write_lengths(texts: &[u8], counts: &[u16], lengths: &mut [u8]) -> Result<(), u8> {
@@ -45,15 +45,12 @@ const REFUSED: [Filling; 12] = [
     (862, b"\x7f", &[1, 1], 8, Err(6)),
 ];
 
-// A row that asked for more than 8 elements would not be counted.
 fn fills(tally: &mut Tally, cases: &[Filling]) {
     for &(case, texts, counts, room, wanted) in cases {
-        let mut list = [lists::UNWRITTEN; 8];
-        if let Some(lengths) = list.get_mut(..room) {
-            let got = write_lengths(texts, counts, lengths);
-            tally.same_number(case, &got, &wanted);
-            tally.holds(case, tally::is_written(&list, wanted.unwrap_or(&[])));
-        }
+        let mut list = [UNWRITTEN; 8];
+        let got = write_lengths(texts, counts, first(&mut list, room));
+        tally.same_number(case, &got, &wanted);
+        tally.holds(case, is_written(&list, wanted.unwrap_or(&[])));
     }
 }
 

@@ -4,6 +4,7 @@
 
 mod beginnings;
 mod fillings;
+mod lists;
 mod tally;
 mod widths;
 
