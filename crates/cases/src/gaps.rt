@@ -1,132 +1,99 @@
 // The gap: document 01's strips 7, 8, 9 and 11 with a clear dot between neighbours, strips at the widest gap, and gaps that are too wide
 // beside each other refusal of the checks on entry.
 use crate::passes::TOO_MANY;
+use crate::strip::Strip;
+use crate::tally::Tally;
+use crate::worked::Worked;
 use crate::{passes, worked};
-use agreed::{lists, tally};
 
 // At gap 1 mark 3 of strip 7 no longer leaves room above for the mark at 12, but mark 2 does; at 11 neither does, and one mark goes
-// without a label.
-fn strips7_and_8(agreed: u32) -> u32 {
-    let a = worked::full_gives(agreed, 607, 1, 5, 12, 0, 0x02_01_03_04_01_77_77_77);
-    let b = worked::slide_gives(a, 607, 1, 5, 12, 0);
-    let c = worked::best_gives(b, 607, 1, 5, 12, 5, 0);
-    let d = worked::full_gives(c, 608, 1, 5, 11, 11, 0x77_77_77_77_77_77_77_77);
-    let e = worked::slide_gives(d, 608, 1, 5, 11, 11);
-    worked::best_gives(e, 608, 1, 5, 11, 4, 1)
-}
-
-// Where labels slide, each side has two of the first four; the second of them begins at 1 at the least, and with the gap its side reaches
-// to 12: too far for the mark at 10.
-fn strips9_and_11(agreed: u32) -> u32 {
-    let a = worked::full_gives(agreed, 609, 1, 5, 10, 11, 0x77_77_77_77_77_77_77_77);
-    let b = worked::slide_gives(a, 609, 1, 5, 10, 11);
-    worked::best_leaves_out(b, 611, 1, 10, &[9, 2, 9, 9, 9], 36, 2)
-}
-
-// The full pass on four labels of this length must give this number, and these 8 bytes for a position list.
-pub fn four_give(
-    agreed: u32,
-    case: u32,
-    places: &[i16; 4],
-    length: u8,
-    gap: u8,
-    number: u8,
-    wanted: u64,
-) -> u32 {
-    let mut positions = [lists::UNWRITTEN; 8];
-    let mut work = [0i16; full::WORK_NAMED];
-    let got = full::full(
-        places,
-        &[length; 4],
-        &[1; 4],
-        gap,
-        &mut positions,
-        &mut work,
-    );
-    let first = tally::same_byte(agreed, case, got, number);
-    tally::holds(first, case, lists::is_written(&positions, wanted))
-}
+// without a label. Where labels slide, each side has two of the first four; the second of them begins at 1 at the least, and with the gap
+// its side reaches to 12: too far for the mark at 10.
+const STRIPS: [Worked; 3] = [
+    (
+        607,
+        1,
+        &[0, 1, 2, 3, 12],
+        Some(Ok(&[2, 1, 3, 4, 1])),
+        Some(Ok(())),
+        Some((5, 0)),
+    ),
+    (
+        608,
+        1,
+        &[0, 1, 2, 3, 11],
+        Some(Err(11)),
+        Some(Err(11)),
+        Some((4, 1)),
+    ),
+    (
+        609,
+        1,
+        &[0, 1, 2, 3, 10],
+        Some(Err(11)),
+        Some(Err(11)),
+        None,
+    ),
+];
 
 // Behind labels that end at 0 and at 1 the next may begin at 8 and at 9, and not a dot sooner.
-fn widest(agreed: u32) -> u32 {
-    let a = four_give(
-        agreed,
-        621,
-        &[0, 1, 8, 9],
-        10,
-        8,
-        0,
-        0x02_03_01_04_77_77_77_77,
-    );
-    let b = four_give(a, 622, &[0, 1, 7, 9], 10, 8, 11, 0x77_77_77_77_77_77_77_77);
-    four_give(b, 623, &[0, 1, 7, 8], 10, 8, 11, 0x77_77_77_77_77_77_77_77)
+fn widest(tally: &mut Tally) {
+    let cases: [(u32, &[i16], Result<&[u8], u8>); 3] = [
+        (621, &[0, 1, 8, 9], Ok(&[2, 3, 1, 4])),
+        (622, &[0, 1, 7, 9], Err(11)),
+        (623, &[0, 1, 7, 8], Err(11)),
+    ];
+    for (case, places, wanted) in cases {
+        passes::full_gives(tally, case, passes::even(places), 8, wanted);
+    }
 }
 
-// Marks at 5 and at `second` must give this number.
-fn two_give(agreed: u32, case: u32, second: i16, gap: u8, number: u8) -> u32 {
-    passes::all_give(
-        agreed,
-        case,
-        &[5, second],
-        &[10; 2],
-        &[1; 2],
-        gap,
-        number,
-        number,
-    )
-}
-
-// A gap of 8 is taken, and no wider one; 12 comes before 8.
-fn bounds(agreed: u32) -> u32 {
-    let a = two_give(agreed, 631, 25, 8, 0);
-    let b = two_give(a, 632, 25, 9, 12);
-    let c = two_give(b, 633, 25, 255, 12);
-    let d = two_give(c, 634, 5, 8, 8);
-    let e = two_give(d, 635, 5, 9, 12);
-    two_give(e, 636, 5, 255, 12)
-}
-
-// No marks.
-fn none_give(agreed: u32, case: u32, gap: u8, number: u8) -> u32 {
-    passes::all_give(agreed, case, &[0; 0], &[0; 0], &[0; 0], gap, number, number)
-}
-
-fn no_marks(agreed: u32) -> u32 {
-    none_give(none_give(agreed, 637, 8, 0), 638, 9, 12)
+// A gap of 8 is taken, and no wider one; 12 comes before 8, and before anything where there are no marks.
+fn bounds(tally: &mut Tally) {
+    let cases: [(u32, &[i16], u8, Result<(), u8>); 8] = [
+        (631, &[5, 25], 8, Ok(())),
+        (632, &[5, 25], 9, Err(12)),
+        (633, &[5, 25], 255, Err(12)),
+        (634, &[5, 5], 8, Err(8)),
+        (635, &[5, 5], 9, Err(12)),
+        (636, &[5, 5], 255, Err(12)),
+        (637, &[], 8, Ok(())),
+        (638, &[], 9, Err(12)),
+    ];
+    for (case, places, gap, wanted) in cases {
+        passes::passes_give(tally, case, passes::even(places), gap, passes::all(wanted));
+    }
 }
 
 // A list of one length for two places: 6 at every gap.
-fn unequal(agreed: u32, case: u32, gap: u8) -> u32 {
-    passes::all_give(agreed, case, &[5, 25], &[10; 1], &[1; 2], gap, 6, 6)
-}
-
-fn unequal_lists(agreed: u32) -> u32 {
-    let a = unequal(agreed, 641, 8);
-    let b = unequal(a, 642, 9);
-    unequal(b, 643, 255)
+fn unequal_lists(tally: &mut Tally) {
+    let strip = Strip {
+        places: &[5, 25],
+        lengths: &[10; 1],
+        weights: &[1; 2],
+    };
+    for (case, gap) in [(641, 8), (642, 9), (643, 255)] {
+        passes::passes_give(tally, case, strip, gap, passes::all(Err(6)));
+    }
 }
 
 // One mark more than any pass takes: 7 if the gap is not too wide.
-fn too_many(agreed: u32, case: u32, gap: u8, number: u8) -> u32 {
-    passes::all_give(
-        agreed,
-        case,
-        &[0; TOO_MANY],
-        &[10; TOO_MANY],
-        &[1; TOO_MANY],
-        gap,
-        number,
-        number,
-    )
+fn too_many_marks(tally: &mut Tally) {
+    let strip = Strip {
+        places: &[0; TOO_MANY],
+        lengths: &[10; TOO_MANY],
+        weights: &[1; TOO_MANY],
+    };
+    for (case, gap, number) in [(651, 8, 7), (652, 9, 12), (653, 255, 12)] {
+        passes::passes_give(tally, case, strip, gap, passes::all(Err(number)));
+    }
 }
 
-fn too_many_marks(agreed: u32) -> u32 {
-    let a = too_many(agreed, 651, 8, 7);
-    let b = too_many(a, 652, 9, 12);
-    too_many(b, 653, 255, 12)
-}
-
-pub fn gaps() -> u32 {
-    let worked = strips9_and_11(strips7_and_8(0));
-    too_many_marks(unequal_lists(no_marks(bounds(widest(worked)))))
+pub fn gaps(tally: &mut Tally) {
+    worked::all_give(tally, &STRIPS);
+    worked::leaves_out(tally, 611, 1, 10, [9, 2, 9, 9, 9], 36, 2);
+    widest(tally);
+    bounds(tally);
+    unequal_lists(tally);
+    too_many_marks(tally);
 }

@@ -1,113 +1,100 @@
 // The listing's bytes, compared whole: strips 4, 6 and 11, several marks left out, no marks, refused jobs, 60 and 61 marks, and 30,000 bytes of input.
-ghost use Rattle.std.specs.Prelude.{◌≤◌, length, ◌≡◌};
+ghost use Rattle.std.specs.Prelude.{◌≤◌};
 
 use crate::jobs;
-use agreed::tally;
+use crate::tally::Tally;
 use listing::TEXT_MOST;
 
-// The listing of a job must be these bytes.
-fn gives(agreed: u32, case: u32, job: &[u8], wanted: &[u8]) -> u32 {
-    let mut text = [0u8; TEXT_MOST];
-    let got = listing::listing(job, &mut text);
-    let first = tally::same_byte(agreed, case, got.number, 0);
-    let second = tally::same_count(first, case, got.length, wanted.len());
-    tally::holds(second, case, text_begins(&text, wanted))
+// How many bytes the listing of a job has.
+fn list(job: &[u8], output: &mut [u8]) -> Result<u64, u8> {
+    let got = listing::listing(job, output);
+    if got.number == 0 {
+        Ok(got.length as u64)
+    } else {
+        Err(got.number)
+    }
 }
 
-fn text_begins(text: &[u8; TEXT_MOST], wanted: &[u8]) -> bool {
-    tally::begins_with(text, wanted)
+// The listing of a job must be these bytes.
+fn gives(tally: &mut Tally, case: u32, job: &[u8], wanted: &[u8]) {
+    let mut text = [0; TEXT_MOST];
+    let got = list(job, &mut text);
+    tally.same_answer(case, got, Ok(wanted.len() as u64));
+    tally.holds(case, text.starts_with(wanted));
+}
+
+// A job with its listing.
+type Listed<'a> = (u32, &'a [u8], &'a [u8]);
+
+fn all_give(tally: &mut Tally, cases: &[Listed]) {
+    for &(case, job, wanted) in cases {
+        gives(tally, case, job, wanted);
+    }
 }
 
 // Strips of document 01.
-fn strips(agreed: u32) -> u32 {
-    let a = gives(
-        agreed,
+const STRIPS: [Listed; 4] = [
+    (
         401,
         &jobs::STRIP11,
         b"marks 5\nfull none\nslide none\nbest 36 of 38\nout 2\n",
-    );
-    let b = gives(
-        a,
+    ),
+    (
         402,
         b"\x00\x00\x00\x00",
         b"marks 0\nfull\nslide fits\nbest 0 of 0\nout none\n",
-    );
-    let c = gives(
-        b,
+    ),
+    (
         403,
         b"\x00\x04\x00\x00\x02\x0a\x02\x0a\x02\x0a\x02\x0a",
         b"marks 4\nfull 2 3 1 4\nslide fits\nbest 4 of 4\nout none\n",
-    );
-    gives(
-        c,
+    ),
+    (
         404,
         b"\x00\x05\x00\x00\x02\x0a\x06\x0a\x00\x09\x06\x0a\x00\x09\x06\x0a\x00\x09\x06\x0a\x00\x09",
         b"marks 5\nfull none\nslide none\nbest 36 of 37\nout 1\n",
-    )
-}
+    ),
+];
 
 // Seven marks side by side with weights 9, 5, 1, 9, 5, 9, 9: those left out stand heaviest first.
-fn left_out(agreed: u32) -> u32 {
-    gives(
-        agreed,
-        405,
-        b"\x00\x07\x00\x00\x06\x0a\x00\x09\x06\x0a\x00\x05\x02\x0a\x06\x0a\x00\x09\x06\x0a\x00\x05\x06\x0a\x00\x09\x06\x0a\x00\x09",
-        b"marks 7\nfull none\nslide none\nbest 36 of 47\nout 2 5 3\n",
-    )
-}
+const LEFT_OUT: [Listed; 1] = [(
+    405,
+    b"\x00\x07\x00\x00\x06\x0a\x00\x09\x06\x0a\x00\x05\x02\x0a\x06\x0a\x00\x09\x06\x0a\x00\x05\x06\x0a\x00\x09\x06\x0a\x00\x09",
+    b"marks 7\nfull none\nslide none\nbest 36 of 47\nout 2 5 3\n",
+)];
 
 // Refused jobs, an empty input, and 30,000 bytes of input.
-fn refused(agreed: u32) -> u32 {
-    let a = gives(agreed, 411, b"\x00\x00\x00\x01", b"refused 4\n");
-    let b = gives(a, 412, b"\x00\x01\x00\x00\x02\x08", b"refused 3\n");
-    let c = gives(b, 413, &[0; 0], b"refused 1\n");
-    gives(c, 414, &[0; 30000], b"refused 5\n")
+fn refused(tally: &mut Tally) {
+    let cases: [Listed; 4] = [
+        (411, b"\x00\x00\x00\x01", b"refused 4\n"),
+        (412, b"\x00\x01\x00\x00\x02\x08", b"refused 3\n"),
+        (413, b"", b"refused 1\n"),
+        (414, &[0; 30000], b"refused 5\n"),
+    ];
+    all_give(tally, &cases);
 }
 
-// Byte `i` of the job of so many marks at each 20th dot, with labels of 8 dots: a header, a record without fields, and records
-// with a step.
-fn spaced_byte(marks: u8, i: usize) -> u8 {
-    if i == 1 {
-        return marks;
-    }
-    if i < 5 {
-        return 0;
-    }
-    let field = (i - 5) % 3;
-    if field == 0 {
-        return 1;
-    }
-    if field == 1 {
-        return 0;
-    }
-    20
+// The job of so many marks at each 20th dot, with labels of 8 dots: a header, a record without fields, and 60 records with a step, of which
+// the job of 60 marks has 59.
+fn spaced(marks: u8) -> [u8; 185] {
+    let mut job = [0; 185];
+    job[1] = marks;
+    job[5..].copy_from_slice([[1, 0, 20]; 60].as_flattened());
+    job
 }
 
-// The job of 61 marks has 185 bytes, that of 60 marks 3 less.
-fn set_spaced(job: &mut [u8], marks: u8)
-    requires { length job.old ≡ 185 }
-    ensures { length job.new ≡ 185 }
+// The listing of that job, of which so many bytes are given.
+fn spaced_gives(tally: &mut Tally, case: u32, marks: u8, bytes: usize, wanted: &[u8])
+    requires { bytes ≤ 185 }
 {
-    let mut i = 0;
-    while i < 185 {
-        job[i] = spaced_byte(marks, i);
-        i += 1;
-    }
-}
-
-// The listing of that job, of which the first `n` bytes are given.
-fn spaced_gives(agreed: u32, case: u32, marks: u8, n: usize, wanted: &[u8]) -> u32
-    requires { n ≤ 185 }
-{
-    let mut job = [0u8; 185];
-    set_spaced(&mut job, marks);
-    gives(agreed, case, &job[..n], wanted)
+    let job = spaced(marks);
+    gives(tally, case, &job[..bytes], wanted);
 }
 
 // 60 marks are the most that slide and best take.
-fn many(agreed: u32) -> u32 {
-    let a = spaced_gives(
-        agreed,
+fn many(tally: &mut Tally) {
+    spaced_gives(
+        tally,
         421,
         60,
         182,
@@ -117,7 +104,7 @@ fn many(agreed: u32) -> u32 {
           slide fits\nbest 60 of 60\nout none\n",
     );
     spaced_gives(
-        a,
+        tally,
         422,
         61,
         185,
@@ -125,18 +112,20 @@ fn many(agreed: u32) -> u32 {
           full 2 2 2 2 2 2 2 2 2 2 2 2 2 2 2 2 2 2 2 2 2 2 2 2 2 2 2 2 2 2 \
           2 2 2 2 2 2 2 2 2 2 2 2 2 2 2 2 2 2 2 2 2 2 2 2 2 2 2 2 2 2 2\n\
           slide refused 7\nbest refused 7\n",
-    )
+    );
 }
 
 // An output of the text's length will do, and one byte less is refused with 9.
-fn lent(agreed: u32) -> u32 {
-    let exact = listing::listing(b"\x00\x00\x00\x01", &mut [0; 10]);
-    let a = tally::same_byte(agreed, 431, exact.number, 0);
-    let short = listing::listing(b"\x00\x00\x00\x01", &mut [0; 9]);
-    let b = tally::same_byte(a, 432, short.number, 9);
-    tally::same_count(b, 432, short.length, 0)
+fn lent(tally: &mut Tally) {
+    let refused = b"\x00\x00\x00\x01";
+    tally.same_number(431, &list(refused, &mut [0; 10]), &Ok(()));
+    tally.same_answer(432, list(refused, &mut [0; 9]), Err(9));
 }
 
-pub fn listings() -> u32 {
-    lent(many(refused(left_out(strips(0)))))
+pub fn listings(tally: &mut Tally) {
+    all_give(tally, &STRIPS);
+    all_give(tally, &LEFT_OUT);
+    refused(tally);
+    many(tally);
+    lent(tally);
 }

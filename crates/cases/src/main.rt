@@ -9,20 +9,21 @@ mod gaps;
 mod jobs;
 mod lent;
 mod listings;
+mod lists;
 mod passes;
 mod ranges;
+mod strip;
+mod tally;
 mod worked;
 
-use agreed::tally;
-
 fn main() {
-    tally::print_group(b"worked strips", worked::worked());
-    tally::print_group(b"ranges", ranges::ranges());
-    tally::print_group(b"counts of marks", counts::counts());
-    tally::print_group(b"lent memory", lent::lent());
-    tally::print_group(b"gaps", gaps::gaps());
-    tally::print_group(b"ends of the coordinates", ends::ends());
-    tally::print_group(b"job bytes", jobs::jobs());
-    tally::print_group(b"left-out lists", crowds::crowds());
-    tally::print_group(b"listings", listings::listings());
+    tally::group(b"worked strips", worked::worked);
+    tally::group(b"ranges", ranges::ranges);
+    tally::group(b"counts of marks", counts::counts);
+    tally::group(b"lent memory", lent::lent);
+    tally::group(b"gaps", gaps::gaps);
+    tally::group(b"ends of the coordinates", ends::ends);
+    tally::group(b"job bytes", jobs::jobs);
+    tally::group(b"left-out lists", crowds::crowds);
+    tally::group(b"listings", listings::listings);
 }

@@ -1,7 +1,81 @@
-// What each pass gives for three lists and a gap, with answer lists for one mark more than any pass takes and a work area that is long
-// enough, and what the writer gives for the lists, with room for any job.
-use agreed::tally;
-use best::answer::Best;
+// What each pass gives for a strip and a gap, and what the writer gives for a strip; and strips for which they must give one and the same.
+use crate::lists::is_written;
+use crate::strip::Strip;
+use crate::tally::Tally;
+use agreed::lists::UNWRITTEN;
+
+// A sum of weights, and a count of marks that are left out.
+#[derive(Clone, Copy)]
+pub struct Choice {
+    pub sum: u32,
+    pub count: usize,
+}
+
+// An answer that is a number alone.
+fn done(number: u8) -> Result<(), u8> {
+    if number == 0 { Ok(()) } else { Err(number) }
+}
+
+pub fn full(strip: Strip, gap: u8, positions: &mut [u8], work: &mut [i16]) -> Result<(), u8> {
+    let number = full::full(
+        strip.places,
+        strip.lengths,
+        strip.weights,
+        gap,
+        positions,
+        work,
+    );
+    done(number)
+}
+
+pub fn slide(
+    strip: Strip,
+    gap: u8,
+    sides: &mut [u8],
+    edges: &mut [i16],
+    work: &mut [u16],
+) -> Result<(), u8> {
+    let number = slide::slide(
+        strip.places,
+        strip.lengths,
+        strip.weights,
+        gap,
+        sides,
+        edges,
+        work,
+    );
+    done(number)
+}
+
+pub fn best(
+    strip: Strip,
+    gap: u8,
+    positions: &mut [u8],
+    left_out: &mut [u16],
+    work: &mut [u32],
+) -> Result<Choice, u8> {
+    let got = best::best(
+        strip.places,
+        strip.lengths,
+        strip.weights,
+        gap,
+        positions,
+        left_out,
+        work,
+    );
+    done(got.number)?;
+    Ok(Choice {
+        sum: got.sum,
+        count: got.count,
+    })
+}
+
+// How many bytes the job of a strip has.
+pub fn write(strip: Strip, job: &mut [u8]) -> Result<u64, u8> {
+    let got = job::writer::write(strip.places, strip.lengths, strip.weights, job);
+    done(got.number)?;
+    Ok(got.length as u64)
+}
 
 // One mark more than any pass takes.
 pub const TOO_MANY: usize = geometry::limits::MOST_MARKS + 1;
@@ -9,78 +83,84 @@ pub const TOO_MANY: usize = geometry::limits::MOST_MARKS + 1;
 // More bytes than any job has.
 const ANY_JOB: usize = 30000;
 
-fn full_number(places: &[i16], lengths: &[u8], weights: &[u16], gap: u8) -> u8 {
-    let mut positions = [0u8; TOO_MANY];
-    let mut work = [0i16; full::WORK_NAMED];
-    full::full(places, lengths, weights, gap, &mut positions, &mut work)
+// The passes with answer lists for one mark more than any takes and a work area that is long enough, and the writer with room for any job.
+fn any_full(strip: Strip, gap: u8) -> Result<(), u8> {
+    full(strip, gap, &mut [0; TOO_MANY], &mut [0; full::WORK_NAMED])
 }
 
-pub fn slide_number(places: &[i16], lengths: &[u8], weights: &[u16], gap: u8) -> u8 {
-    let mut sides = [0u8; TOO_MANY];
-    let mut edges = [0i16; TOO_MANY];
-    let mut work = [0u16; slide::WORK_NAMED];
-    slide::slide(
-        places, lengths, weights, gap, &mut sides, &mut edges, &mut work,
-    )
-}
-
-pub fn best_answer(places: &[i16], lengths: &[u8], weights: &[u16], gap: u8) -> Best {
-    let mut positions = [0u8; TOO_MANY];
-    let mut left_out = [0u16; TOO_MANY];
-    let mut work = [0u32; best::WORK_NAMED];
-    best::best(
-        places,
-        lengths,
-        weights,
+pub fn any_slide(strip: Strip, gap: u8) -> Result<(), u8> {
+    slide(
+        strip,
         gap,
-        &mut positions,
-        &mut left_out,
-        &mut work,
+        &mut [0; TOO_MANY],
+        &mut [0; TOO_MANY],
+        &mut [0; slide::WORK_NAMED],
     )
 }
 
-fn best_number(places: &[i16], lengths: &[u8], weights: &[u16], gap: u8) -> u8 {
-    let got = best_answer(places, lengths, weights, gap);
-    got.number
+pub fn any_best(strip: Strip, gap: u8) -> Result<Choice, u8> {
+    best(
+        strip,
+        gap,
+        &mut [0; TOO_MANY],
+        &mut [0; TOO_MANY],
+        &mut [0; best::WORK_NAMED],
+    )
 }
 
-// What the three passes must give: `small` for slide and best, which take 60 marks, `large` for full.
-pub fn all_give(
-    agreed: u32,
-    case: u32,
-    places: &[i16],
-    lengths: &[u8],
-    weights: &[u16],
-    gap: u8,
-    small: u8,
-    large: u8,
-) -> u32 {
-    let a = tally::same_byte(
-        agreed,
-        case,
-        full_number(places, lengths, weights, gap),
-        large,
-    );
-    let b = tally::same_byte(a, case, slide_number(places, lengths, weights, gap), small);
-    tally::same_byte(b, case, best_number(places, lengths, weights, gap), small)
+fn any_write(strip: Strip) -> Result<u64, u8> {
+    write(strip, &mut [0; ANY_JOB])
 }
 
-fn writer_number(places: &[i16], lengths: &[u8], weights: &[u16]) -> u8 {
-    let mut job = [0u8; ANY_JOB];
-    let got = job::writer::write(places, lengths, weights, &mut job);
-    got.number
+// What the calls must give: one answer of slide and best, which take 60 marks, and one of full and the writer.
+#[derive(Clone, Copy)]
+pub struct Wanted {
+    pub small: Result<(), u8>,
+    pub large: Result<(), u8>,
 }
 
-// What the four calls must give, at gap 0: `small` for slide and best, `large` for full and the writer.
-pub fn calls_give(
-    agreed: u32,
-    case: u32,
-    places: &[i16],
-    lengths: &[u8],
-    weights: &[u16],
-    small: u8,
-    large: u8,
-) -> u32 {
-    let a = all_give(agreed, case, places, lengths, weights, 0, small, large);
-    tally::same_byte(a, case, writer_number(places, lengths, weights), large)
+// One answer of all.
+pub fn all(answer: Result<(), u8>) -> Wanted {
+    Wanted {
+        small: answer,
+        large: answer,
+    }
+}
+
+// What the three passes must give.
+pub fn passes_give(tally: &mut Tally, case: u32, strip: Strip, gap: u8, wanted: Wanted) {
+    tally.same_number(case, &any_full(strip, gap), &wanted.large);
+    tally.same_number(case, &any_slide(strip, gap), &wanted.small);
+    tally.same_number(case, &any_best(strip, gap), &wanted.small);
+}
+
+// What the passes, at gap 0, and the writer must give.
+pub fn calls_give(tally: &mut Tally, case: u32, strip: Strip, wanted: Wanted) {
+    passes_give(tally, case, strip, 0, wanted);
+    tally.same_number(case, &any_write(strip), &wanted.large);
+}
+
+// The full pass must write these positions, or be refused and write none.
+pub fn full_gives(tally: &mut Tally, case: u32, strip: Strip, gap: u8, wanted: Result<&[u8], u8>) {
+    let mut positions = [UNWRITTEN; 8];
+    let got = full(strip, gap, &mut positions, &mut [0; full::WORK_NAMED]);
+    tally.same_number(case, &got, &wanted);
+    tally.holds(case, is_written(&positions, wanted.unwrap_or(&[])));
+}
+
+// Two comparisons: of the sum of weights, and of the count of left-out marks; both are 0 at a refusal.
+pub fn same_choice(tally: &mut Tally, case: u32, got: Result<Choice, u8>, wanted: Choice) {
+    let choice = got.unwrap_or(Choice { sum: 0, count: 0 });
+    tally.same(case, u64::from(choice.sum), u64::from(wanted.sum));
+    tally.same(case, choice.count as u64, wanted.count as u64);
+}
+
+// A strip of up to 8 marks, with labels of 10 dots and weight 1. More places would be refused with 6.
+pub fn even(places: &[i16]) -> Strip<'_> {
+    let marks = places.len().min(8);
+    Strip {
+        places,
+        lengths: &[10; 8][..marks],
+        weights: &[1; 8][..marks],
+    }
 }

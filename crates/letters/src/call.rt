@@ -1,81 +1,81 @@
 // One call with what it must give: number, width, position list and work area.
-ghost use Rattle.std.specs.Prelude.{◌≤◌, ◌+◌};
-ghost use Rattle.full.specs.Full.{work_named};
-
-use agreed::{lists, tally};
+use crate::lists::{first, is_written};
+use crate::strip::Strip;
+use crate::tally::Tally;
+use agreed::lists::UNWRITTEN;
 
 // What stands in the work area before a call, which has elements behind its named part.
 const USED: i16 = 7;
 
 const BEHIND: usize = 8;
 
-pub const WHOLE: usize = full::WORK_NAMED + BEHIND;
+const WHOLE: usize = full::WORK_NAMED + BEHIND;
 
-// What must stand at an index afterwards: the named part is cleared at 0 and at 11, and nothing is changed at every other refusal.
-fn wanted_at(number: u8, i: usize) -> i16 {
-    if full::WORK_NAMED <= i {
-        return USED;
-    }
-    if number == 0 || number == 11 { 0 } else { USED }
-}
-
-fn is_left_so(work: &[i16; WHOLE], number: u8) -> bool {
-    let mut i = 0;
-    while i < WHOLE {
-        if work[i] != wanted_at(number, i) {
-            return false;
-        }
-        i += 1;
-    }
-    true
-}
-
-// A position list as it was.
-pub const UNCHANGED: u64 = 0x7777_7777_7777_7777;
-
-// What a call gives: the number, the width, and the position list of 8.
-#[derive(Clone, Copy)]
-pub struct Wanted(pub u8, pub u8, pub u64);
-
-// The call with `room` of 8 positions and `lent` elements of the work area.
-pub fn gives_with(
-    agreed: u32,
-    case: u32,
-    places: &[i16],
-    cells: &[u8],
-    weights: &[u16],
-    gap: u8,
-    room: usize,
-    lent: usize,
-    wanted: Wanted,
-) -> u32
-    requires { (room ≤ 8) × (lent ≤ work_named + 8) }
-{
-    let mut positions = [lists::UNWRITTEN; 8];
-    let mut work = [USED; WHOLE];
+// The greatest width of a letter cell.
+fn largest(strip: Strip, gap: u8, positions: &mut [u8], work: &mut [i16]) -> Result<u64, u8> {
     let got = largest::largest(
-        places,
-        cells,
-        weights,
+        strip.places,
+        strip.lengths,
+        strip.weights,
         gap,
-        &mut positions[..room],
-        &mut work[..lent],
+        positions,
+        work,
     );
-    let a = tally::same_byte(agreed, case, got.number, wanted.0);
-    let b = tally::same_byte(a, case, got.width, wanted.1);
-    let c = tally::holds(b, case, lists::is_written(&positions, wanted.2));
-    tally::holds(c, case, is_left_so(&work, wanted.0))
+    if got.number == 0 {
+        Ok(u64::from(got.width))
+    } else {
+        Err(got.number)
+    }
+}
+
+// The named part is cleared at 0 and at 11, and nothing is changed at every other refusal.
+fn is_left_so<T>(work: &[i16; WHOLE], wanted: &Result<T, u8>) -> bool {
+    let named = match wanted {
+        Ok(_) | Err(11) => 0,
+        Err(_) => USED,
+    };
+    let (front, behind) = work.split_at(full::WORK_NAMED);
+    front.iter().all(|&x| x == named) && behind.iter().all(|&x| x == USED)
+}
+
+pub const NO_MARKS: Strip = Strip {
+    places: &[],
+    lengths: &[],
+    weights: &[],
+};
+
+// What a call must give: the width, and the positions that it writes.
+pub type Wanted<'a> = Result<(u64, &'a [u8]), u8>;
+
+// How much of a position list of 8 and of the work area is lent.
+#[derive(Clone, Copy)]
+pub struct Lent {
+    pub positions: usize,
+    pub work: usize,
+}
+
+pub const ALL: Lent = Lent {
+    positions: 8,
+    work: WHOLE,
+};
+
+// The call with these parts of both.
+pub fn gives_with(tally: &mut Tally, case: u32, strip: Strip, gap: u8, lent: Lent, wanted: Wanted) {
+    let mut positions = [UNWRITTEN; 8];
+    let mut work = [USED; WHOLE];
+    let got = largest(
+        strip,
+        gap,
+        first(&mut positions, lent.positions),
+        first(&mut work, lent.work),
+    );
+    tally.same_answer(case, got, wanted.map(|(width, _)| width));
+    let written = wanted.map_or(&[] as &[u8], |(_, positions)| positions);
+    tally.holds(case, is_written(&positions, written));
+    tally.holds(case, is_left_so(&work, &wanted));
 }
 
 // The same with all of both.
-pub fn gives(
-    agreed: u32,
-    case: u32,
-    places: &[i16],
-    cells: &[u8],
-    weights: &[u16],
-    gap: u8,
-    wanted: Wanted,
-) -> u32 {
-    gives_with(agreed, case, places, cells, weights, gap, 8, WHOLE, wanted)
+pub fn gives(tally: &mut Tally, case: u32, strip: Strip, gap: u8, wanted: Wanted) {
+    gives_with(tally, case, strip, gap, ALL, wanted);
 }

@@ -2,12 +2,13 @@
 #![tactic(auto)]
 
 mod call;
+mod lists;
 mod refusals;
+mod strip;
+mod tally;
 mod widths;
 
-use agreed::tally;
-
 fn main() {
-    tally::print_group(b"widths", widths::widths());
-    tally::print_group(b"refusals", refusals::refusals());
+    tally::group(b"widths", widths::widths);
+    tally::group(b"refusals", refusals::refusals);
 }

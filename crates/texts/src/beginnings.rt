@@ -1,21 +1,29 @@
 // The longest beginning of a text.
-use agreed::tally;
+use crate::tally::Tally;
 
-// How long the beginning of a text must be.
-fn begins(agreed: u32, case: u32, text: &[u8], number: u8, count: usize) -> u32 {
+// How many bytes the longest beginning has.
+fn beginning(text: &[u8]) -> Result<u64, u8> {
     let got = font::beginning(text);
-    let first = tally::same_byte(agreed, case, got.number, number);
-    tally::same_count(first, case, got.count, count)
+    if got.number == 0 {
+        Ok(got.count as u64)
+    } else {
+        Err(got.number)
+    }
 }
 
 // None, all, exactly 240 dots and a byte behind it, 233 dots and a byte that has no room, and 13 behind the beginning.
-pub fn beginnings() -> u32 {
-    let a = begins(0, 831, b"", 0, 0);
-    let b = begins(a, 832, b"Wind 7", 0, 6);
-    let c = begins(b, 833, &[b'i'; 80], 0, 80);
-    let d = begins(c, 834, &[b'i'; 81], 0, 80);
-    let e = begins(d, 835, &[b'm'; 300], 0, 26);
-    let f = begins(e, 836, &[b'a'; 300], 0, 40);
-    let g = begins(f, 837, b"  mmmmmmmmmmmmmmmmmmmmmmmmmm", 0, 27);
-    begins(g, 838, b"mmmmmmmmmmmmmmmmmmmmmmmmmmmmmm\x1f", 13, 0)
+pub fn beginnings(tally: &mut Tally) {
+    let cases: [(u32, &[u8], Result<u64, u8>); 8] = [
+        (831, b"", Ok(0)),
+        (832, b"Wind 7", Ok(6)),
+        (833, &[b'i'; 80], Ok(80)),
+        (834, &[b'i'; 81], Ok(80)),
+        (835, &[b'm'; 300], Ok(26)),
+        (836, &[b'a'; 300], Ok(40)),
+        (837, b"  mmmmmmmmmmmmmmmmmmmmmmmmmm", Ok(27)),
+        (838, b"mmmmmmmmmmmmmmmmmmmmmmmmmmmmmm\x1f", Err(13)),
+    ];
+    for (case, text, wanted) in cases {
+        tally.same_answer(case, beginning(text), wanted);
+    }
 }

@@ -4,12 +4,12 @@
 
 mod beginnings;
 mod fillings;
+mod lists;
+mod tally;
 mod widths;
 
-use agreed::tally;
-
 fn main() {
-    tally::print_group(b"widths", widths::widths());
-    tally::print_group(b"beginnings", beginnings::beginnings());
-    tally::print_group(b"length lists", fillings::fillings());
+    tally::group(b"widths", widths::widths);
+    tally::group(b"beginnings", beginnings::beginnings);
+    tally::group(b"length lists", fillings::fillings);
 }
