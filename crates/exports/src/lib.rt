@@ -3,7 +3,7 @@
 #![tactic(auto)]
 
 mod handed;
-//mod jobs;
+mod jobs;
 mod letters;
 mod passes;
-//mod texts;
+mod texts;
