@@ -13,8 +13,7 @@ use Rattle.geometry.specs.Mark.{Mark}
 use Rattle.geometry.specs.Strip.{Strip, marks_of, most_short}
 use Rattle.geometry.specs.Position.{Side}
 use Rattle.geometry.specs.Sliding.{leftmost_edges, none_beyond, slides_whole}
-use Rattle.geometry.specs.Refusal.{Verdict, accepted, refused, number_of, refusal_number}
-use Rattle.geometry.specs.declared.refusal.Refusal.{Refusal}
+use Rattle.geometry.specs.Refusal.{Verdict, accepted, number_of, refusal_number}
 use Rattle.geometry.specs.declared.refusal.Refusal.TheVariants.{NoPlacing as no_placing}
 use Rattle.geometry.specs.inner.Place.{place_of_lem}
 use Rattle.geometry.specs.inner.Rising.{Rising}
@@ -22,7 +21,6 @@ use Rattle.geometry.specs.Pass.{pass_verdict}
 use Rattle.geometry.proofs.Accepted.{Accepted, PassAccepted, pass-accepted, accepted-rising, length-marks}
 use Rattle.geometry.proofs.Places.{dot-of-place}
 use Rattle.geometry.proofs.Split.{by_bool}
-use Rattle.geometry.proofs.Verdicts.{refusal-positive}
 use Rattle.geometry.proofs.WholeEdges.{leftmost-placing, whole-slides, none-slides}
 use Rattle.slide.specs.Slide.{SlideLent, slide_checks, slide_verdict, work_named, NoPlacing, Placed, SlideContract}
 use Rattle.slide.specs.inner.Answer.{AnswerReady, Answer}
@@ -83,18 +81,6 @@ module _ (s : Strip) (g : ℕ) (entry : SlideLent) where
   answer-ready past =
       let p = passed past in
       record { sides-long = omega (arith, p.list-long); edges-long = omega (arith, p.list-long); work-long = p.work-long }
-
-  -- a refusal by them
-  pub refused-right : (r : Refusal) {v : Verdict} → v ≡ refused r → slide_checks s g entry ≡ refused r → SlideContract s g entry entry (number_of v)
-  refused-right r is refuses =
-      rw is
-      (record {
-        number_is = rw refuses refl;
-        none-exactly = λ a. absurd (refusal-positive r (ap number_of (sym refuses ∙ a)));
-        where-placed = λ z. absurd (refusal-positive r z);
-        where-refused = λ _. record { sides-unchanged = refl; edges-unchanged = refl };
-        work-is = rw refuses refl;
-      })
 
   -- an answer past the checks
   module _ (past : slide_checks s g entry ≡ accepted) (exit : SlideLent) (n : ℕ) (answer : Answer s.places s.lengths g entry exit n) where

@@ -6,7 +6,6 @@ use mathlib.Core.Logic.{⊎_elim}
 use mathlib.Core.List.{List}
 use Prim.Native.Nat.{ℕ, suc, ◌+◌, ◌≤◌, ◌<◌, max}
 use native.Mathlib.Omega.{arith}
-use borrow.Author.Tests.{lt-leb}
 use lib.ListN.{length, set}
 use lib.Seq.{get_or-set_same, get_or-set_other}
 use Rattle.geometry.specs.Mark.{Mark}
@@ -14,12 +13,6 @@ use Rattle.geometry.proofs.Split.{by-leb, lt-or-ge}
 use Rattle.slide.specs.inner.Room.{slid_by, reach_at, furthest, own_side_lem, other_side_lem, room_before}
 use Rattle.slide.specs.inner.Table.{cell_in, row_before}
 use Rattle.slide.proofs.FurthestSlide.{furthest-within, furthest-same, furthest-resumed}
-
--- a cell on the label's own side that is not 0 says that the reach is not beyond the mark
-pub own-within : (m : Mark) (t : ℕ) (cells : ℕ → ℕ) (b : ℕ) → b < own_side_lem m t cells → t ≤ m.place
-own-within m t cells b h =
-    ⊎_elim (λ beyond. let none : own_side_lem m t cells ≡ 0 = rw (lt-leb t m.place beyond) refl in absurd (omega arith)) (λ within. within)
-    (lt-or-ge m.place t)
 
 -- of a mark's cells those up to its label's length are read
 module _ (m : Mark) (t : ℕ) (f h : ℕ → ℕ) (short : m.label_length < m.place) (same : (d : ℕ) → d ≤ m.label_length → f d ≡ h d) where
@@ -36,16 +29,6 @@ pub record Scanned (g : ℕ) (m k : Mark) (next : ℕ → ℕ) (row : List ℕ) 
   pub right : (e : ℕ) → e < d → cell_in row e ≡ row_before g m k next e
   pub within : slides ≤ k.label_length + 1
   pub left : furthest next (reach_at g m d) (suc k.label_length) ≡ furthest next (reach_at g m d) slides
-
--- no cell yet, and the scan starts at the label's length
-pub scanned-none : (g : ℕ) (m k : Mark) (next : ℕ → ℕ) (row : List ℕ) (d slides : ℕ) → d ≡ 0 → slides ≡ suc k.label_length
-    → Scanned g m k next row d slides
-scanned-none g m k next row d slides none all =
-    record {
-      right = λ e h. absurd (omega arith);
-      within = omega arith;
-      left = ap (furthest next (reach_at g m d)) (sym all);
-    }
 
 -- one more cell, from what the scan found for the label that slid by d
 module _

@@ -6,24 +6,17 @@ use Prim.Native.Nat.{ℕ, zero, suc, ◌+◌, ◌≤◌, ◌<◌}
 use native.Mathlib.Omega.{arith}
 use native.Mathlib.Numerals.{add-one}
 use lib.IntN.{ℤ, pos}
-use lib.Signed.{mag}
 use lib.ListN.{length, get_or, drop, drop_of_length-le}
-use mir.Syntax.{w16}
-use mir.Val.{to_z, of_z}
 use Rattle.geometry.specs.Dot.{dot}
 use Rattle.std.specs.List.{list_all}
 use Rattle.geometry.specs.Mark.{place_in_range_lem, length_in_range_lem, most_length}
 use Rattle.geometry.specs.Pass.{most_gap}
 use Rattle.geometry.proofs.Split.{one-to}
 use Rattle.geometry.proofs.Accepted.{every-at, first_good, rest-good}
-use Rattle.geometry.proofs.Dots.{range-dots, fetched}
+use Rattle.geometry.proofs.Dots.{range-dots}
 use Rattle.slide.specs.inner.Plain.{plain_mark, plain_marks, plain_at, Checked}
 use Rattle.slide.specs.inner.Room.{GoodLabel}
 use Rattle.slide.proofs.ExactCells.{Inside}
-
--- the dot that the code finds of a place that it reads
-pub dot-read : (z : ℤ) (found : ℕ) → mag z < 32768 → found ≡ dot (to_z w16 (of_z w16 z)) → found ≡ dot z
-dot-read z found small is = is ∙ ap dot (fetched z small)
 
 -- the ranges of place and length leave dots enough on either side of the place
 good-label : (z : ℤ) (l : ℕ) → place_in_range_lem z ≡ true → length_in_range_lem l ≡ true → GoodLabel (plain_mark (dot z) l)

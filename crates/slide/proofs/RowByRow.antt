@@ -30,17 +30,17 @@ rows-from g cells (m ∷ ms) (suc i) table =
     drop-drop (i * row_cells) row_cells cells ∙ ap (λ n. drop n cells) together in
     rw (← next) (rows-from g (drop row_cells cells) ms i table.1)
 
+-- cells that are filled with one value
+pub cells-filled : {cells : List ℕ} (n v : ℕ) → cells ≡ replicate n v → CellsAre cells (λ d. v)
+cells-filled n v is = rw is (record { each = λ d h. get_or-replicate n d v 0 (omega (arith, length-replicate n v)) })
+
 -- the first d cells from an index on hold these values, and the rows behind them are as they were
 pub record FilledTo (old new : List ℕ) (row d : ℕ) (value : ℕ → ℕ) : Type 0 where
   pub cells : (e : ℕ) → e < d → get_or new (row + e) 0 ≡ value e
   pub behind : drop (row + row_cells) new ≡ drop (row + row_cells) old
   pub same_length : length new ≡ length old
 
--- cells that are filled with one value
-pub cells-filled : {cells : List ℕ} (n v : ℕ) → cells ≡ replicate n v → CellsAre cells (λ d. v)
-cells-filled n v is = rw is (record { each = λ d h. get_or-replicate n d v 0 (omega (arith, length-replicate n v)) })
-
--- so it is where they were written into the list up to the row's end, and what is behind stands as it was
+-- so they do where they were written into the list up to the row's end, with what is behind it put back
 pub cells-written : (old front behind cells : List ℕ) (row n count : ℕ) (value : ℕ → ℕ) → row + row_cells ≤ length old
     → length front ≡ row + row_cells → behind ≡ drop (row + row_cells) old → count ≡ n → length cells ≡ n → n ≤ row_cells → CellsAre cells value
     → FilledTo old (put_mid row count front cells ++ behind) row n value
@@ -131,9 +131,3 @@ module _ (places : List ℤ) (lengths : List ℕ) (g : ℕ) (checked : Checked p
         (rw (marks-from places lengths g checked (k + 1) more)
         (row_before_lem g old new (k * row_cells) here _ _ row
         (λ d h. row-right g old next_row here next _ d (label_at places lengths g checked (k + 1) more).left rest) rest))
-
--- what a later step kept is kept from the start
-pub table_more : (g : ℕ) (first old new : List ℕ) (j k : ℕ) (ms : List Mark) → TableFrom g first old j ms → TableFrom g old new k ms
-    → TableFrom g first new k ms
-table_more g first old new j k ms before after =
-    record { table = after.table; beyond = after.beyond ∙ before.beyond; same_length = after.same_length ∙ before.same_length }

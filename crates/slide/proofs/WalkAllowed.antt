@@ -1,12 +1,12 @@
 -- The walk from the left finds sides whose leftmost edges are all allowed, wherever there are some: it takes above if the label can lie
 -- there and the rest still goes, by the exact cell, and else the rest goes with the label below.
 use mathlib.Core.Path.{◌≡◌, refl, sym, ◌∙◌, ap}
-use mathlib.Core.Bool.{true, false, or_self}
+use mathlib.Core.Bool.{true, or_self}
 use mathlib.Core.Logic.{⊎_elim}
 use mathlib.Core.List.{List, [], ◌∷◌}
-use Prim.Native.Nat.{ℕ, suc, ◌+◌, ◌≤◌, ◌<◌}
+use Prim.Native.Nat.{ℕ, suc, ◌≤◌, ◌<◌}
 use native.Mathlib.Omega.{arith}
-use borrow.Author.Tests.{leb-true, le-leb, lt-ltb, le-ltb}
+use borrow.Author.Tests.{leb-true, le-leb}
 use lib.Dec.{leb, ltb}
 use lib.ListN.{length}
 use Rattle.geometry.specs.Dot.{empty_reach}
@@ -15,8 +15,8 @@ use Rattle.geometry.specs.Position.{Side, above, below, own_reach, above_after, 
 use Rattle.geometry.specs.Sliding.{leftmost_edge, edges_from, none_beyond}
 use Rattle.geometry.specs.inner.Outside.{no_bound}
 use Rattle.geometry.proofs.Split.{by_bool, both, and-fst, and-snd, or_cases, clash}
-use Rattle.slide.specs.inner.Room.{reach_at, reach_past, slideable, own_side_lem, room}
-use Rattle.slide.specs.inner.Walk.{takes_above, side_if, side_before, sides_from, LabelOn}
+use Rattle.slide.specs.inner.Room.{reach_at, reach_past, slideable, room}
+use Rattle.slide.specs.inner.Walk.{takes_above, side_if, side_before, sides_from}
 use Rattle.slide.proofs.Slideable.{exchanged}
 use Rattle.slide.proofs.ExactCells.{Inside, cells_of, room-exact, own-side-exact}
 
@@ -76,19 +76,3 @@ first_cell g m ms inside =
     let r : reach_past g m empty_reach ≡ reach_at g m 0 = omega (arith, inside.0.left) in
     let cell = room-exact g ms inside.1 (reach_at g m 0) empty_reach (omega (arith, inside.0)) (omega arith) in
     rw (le-leb empty_reach m.place (omega (arith, inside.0.left)), r, exchanged g empty_reach (reach_at g m 0) ms, ← cell) (or_self _)
-
--- the test as the code makes it, by the cell that it found
-module _ (m : Mark) (a b cell : ℕ) (cells : ℕ → ℕ) (cell-is : cell ≡ own_side_lem m a cells) where
-  -- above is taken where the cell lies beyond the other reach, and not where it does not
-  pub above-taken : b < cell → takes_above a b m cells ≡ true
-  above-taken h = lt-ltb b (own_side_lem m a cells) (omega arith)
-
-  pub above-barred : cell ≤ b → takes_above a b m cells ≡ false
-  above-barred h = le-ltb b (own_side_lem m a cells) (omega arith)
-
--- a label on side s, as the code computes it: its edge, and the reach of its side after it
-pub label-on : (g : ℕ) (s : Side) (m : Mark) (a b edge reach : ℕ) → edge ≡ leftmost_edge m (own_reach s a b) → reach ≡ edge + m.label_length + g
-    → LabelOn g s m a b s edge (above_after s reach a) (below_after s reach b)
-label-on g s m a b edge reach e counted =
-    let past : reach ≡ reach_past g m (own_reach s a b) = omega arith in
-    record { side-is = refl; edge-is = e; above-is = ap (λ r. above_after s r a) past; below-is = ap (λ r. below_after s r b) past }

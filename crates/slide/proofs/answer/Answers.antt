@@ -27,13 +27,13 @@ walk-requires c =
     _ c.fits-fits.ensures c.if-fits.true
 
 pub slice_bounds-fill-end-2 : goal.slice_bounds-fill-end-2
-slice_bounds-fill-end-2 c =
-    omega (arith, named-long c.fill.ensures c.requires)
+slice_bounds-fill-end-2 c = omega (arith, named-long c.fill.ensures c.requires)
 
 pub returns : goal.returns
 returns c =
+    let exit = slide_lent c.if-fits.sides c.if-fits.edges (c.fill-2.new.self ++ drop work_named c.fill.new.work) in
     answered _ _ _ (slide_lent c.args.sides.now c.args.edges.now c.args.work.now) _ c.args.marks.checked c.requires c.fill.ensures
-    _ c.fits-fits.ensures (slide_lent c.if-fits.sides c.if-fits.edges (c.fill-2.new.self ++ drop work_named c.fill.new.work)) (verdict_of c.check.result) c.check.ensures
+    _ c.fits-fits.ensures exit (verdict_of c.check.result) c.check.ensures
     (λ fits. elim c.if-fits.branch [
       | then-fits w ↦ record { sides = w.sides-is ∙ w.walk.ensures.sides; edges = w.edges-is ∙ w.walk.ensures.edges }
       | else-fits w ↦ absurd (true≢false (sym fits ∙ w.if-fits.false))

@@ -1,16 +1,9 @@
 -- A refusal by the checks stands, and else the answer past them.
 use mathlib.Core.Path.{sym}
 use Rattle.geometry.specs.Strip.{lists_of}
-use Rattle.geometry.proofs.Verdicts.{handed-on}
 use Rattle.slide.specs.Slide.{slide_lent}
-use Rattle.slide.proofs.Contract.{checks-made, checked, answer-ready, refused-right, answered-right}
+use Rattle.slide.proofs.Contract.{checks-made, checked, answer-ready, answered-right}
 use Rattle.slide.proofs.slide.Goals as goal
-
-pub returns-in_err-check_pass : goal.returns-in_err-check_pass
-returns-in_err-check_pass c =
-    let lent = slide_lent c.args.sides.now c.args.edges.now c.args.work.now in
-    let made = checks-made (lists_of c.args.strip) c.args.gap lent _ c.in_err-check_pass.ensures c.min-shortest.ensures in
-    refused-right (lists_of c.args.strip) c.args.gap lent _ (handed-on _ _ c.from_residual.ensures.1) (sym made)
 
 pub invariant_of-marks : goal.invariant_of-marks
 invariant_of-marks c =

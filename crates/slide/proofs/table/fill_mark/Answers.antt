@@ -7,15 +7,14 @@ use Rattle.slide.proofs.table.fill_mark.Goals as goal
 
 pub returns-then-k-marks : goal.returns-then-k-marks
 returns-then-k-marks c =
-    let checked = c.args.marks.checked in
-    table-last _ _ _ checked _ _ c.args.k c.requires.within (mark_of c.at-mark.result) c.at-mark.ensures (omega arith)
-    (cells-written _ _ _ _ _ _ _ _ (omega (arith, checked.few, c.requires.within, c.requires.work-long)) (search rules) c.split_at_mut-filled.ensures.back (omega arith)
-    (omega (arith, c.fill.ensures.len)) (omega arith) (cells-filled _ _ (c.fill.ensures.after (λ y e. e))))
+    let filled = cells-filled _ _ (c.fill.ensures.after (λ y e. e)) in
+    table-last _ _ _ c.args.marks.checked _ _ c.args.k c.requires.within (mark_of c.at-mark.result) c.at-mark.ensures (omega arith)
+    (cells-written _ _ _ _ _ _ _ _ (omega (arith, c.args.marks.checked.few)) (search rules) (search rules) (omega arith)
+    (search rules) (omega arith) filled)
 
 pub returns : goal.returns
 returns c =
-    let checked = c.args.marks.checked in
-    table_before _ _ _ checked _ _ c.args.k c.requires.within (mark_of c.at-mark.result) (mark_of c.at.result) c.at-mark.ensures c.at.ensures
-    (omega arith) c.requires.behind
-    (cells-written _ _ _ _ _ _ _ _ (omega (arith, checked.few)) (search rules) (search rules) (omega arith)
+    table_before _ _ _ c.args.marks.checked _ _ c.args.k c.requires.within (mark_of c.at-mark.result) (mark_of c.at.result)
+    c.at-mark.ensures c.at.ensures (omega arith) c.requires.behind
+    (cells-written _ _ _ _ _ _ _ _ (omega (arith, c.args.marks.checked.few)) (search rules) (search rules) (omega arith)
     (search rules) (omega arith) (rw (← c.split_at_mut-filled.ensures.back) c.fill_cells.ensures))

@@ -11,6 +11,7 @@ use Rattle.geometry.specs.inner.Place.{place_of_lem}
 use Rattle.geometry.proofs.Dots.{fetched}
 use Rattle.geometry.proofs.Places.{place-mag}
 use Rattle.slide.specs.inner.Handed.{mark_of}
+use Rattle.slide.specs.inner.Table.{row_cells}
 use Rattle.slide.proofs.WalkedSoFar.{walked_none, walked_all, step-ready, walked_more}
 use Rattle.slide.proofs.walk.walk.Goals as goal
 
@@ -23,14 +24,14 @@ loop-i-init c = walked_none _ _ _ _ _ _ (omega arith) c.requires.fits
 
 pub place_label-label-requires : goal.place_label-label-requires
 place_label-label-requires c =
-    let row = between_to_end c.args.work.now (c.loop-i.i * 241) (length c.args.work.now) (omega arith) in
+    let row = between_to_end c.args.work.now (c.loop-i.i * row_cells) (length c.args.work.now) (omega arith) in
     step-ready _ _ _ c.args.marks.checked c.args.work.now _ _ _ _ _ _ c.loop-i.i c.requires.table c.loop-i.invariant (omega arith)
     (mark_of c.at.result) _ c.at.ensures row c.requires.work-long
 
 pub loop-i-preserved : goal.loop-i-preserved
 loop-i-preserved c =
     let walked = c.loop-i.invariant in
-    let row = between_to_end c.args.work.now (c.loop-i.i * 241) (length c.args.work.now) (omega arith) in
+    let row = between_to_end c.args.work.now (c.loop-i.i * row_cells) (length c.args.work.now) (omega arith) in
     rw (edge-written c.place_label-label.result.edge c.place_of.result c.place_of.ensures (omega arith), c.from.ensures)
     (walked_more _ _ _ c.args.marks.checked c.args.work.now _ _ _ _ _ _ c.loop-i.i c.requires.table walked (omega arith)
     (mark_of c.at.result) _ c.at.ensures row _ _ _ _ c.place_label-label.ensures (omega (arith, c.requires.sides-long, walked.sides-so-far.same_length))
