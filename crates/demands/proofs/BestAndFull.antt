@@ -20,8 +20,7 @@ use Rattle.geometry.proofs.Accepted.{Accepted, pass-accepted, length-marks}
 use Rattle.geometry.proofs.Best.{free-length, best-bounds}
 use Rattle.geometry.proofs.Whole.{weights_of, weights-of-marks, heavy-marks, sum-of-all, all-earn, best-whole-iff-placing}
 use Rattle.full.specs.Full.{FullLent, full_checks, FullContract}
-use Rattle.best.specs.declared.answer.Best.{Best}
-use Rattle.best.specs.Best.{work_named, BestLent, best_checks, AcceptedAnswer, BestContract}
+use Rattle.best.specs.Best.{BestAnswer, work_named, BestLent, best_checks, AcceptedAnswer, BestContract}
 use Rattle.best.proofs.LeftOutOnce.{each-left-out-once}
 use Rattle.best.proofs.HeaviestFirst.{heaviest-first}
 use Rattle.best.proofs.OneList.{no-other-list}
@@ -29,7 +28,7 @@ use Rattle.demands.specs.Demands.{BestChosen, BestAndFull}
 use Rattle.demands.proofs.FullNumber.{fits-exactly}
 
 -- a call of the best pass that gives 0
-module _ (s : Strip) (gap : ℕ) (lent left : BestLent) (answer : Best) (call : BestContract s gap lent left answer) (zero : answer.number ≡ 0) where
+module _ (s : Strip) (gap : ℕ) (lent left : BestLent) (answer : BestAnswer) (call : BestContract s gap lent left answer) (zero : answer.number ≡ 0) where
   -- number 0 says that the checks are passed
   pub best-passed : best_checks s gap lent ≡ accepted
   best-passed = zero-accepted (best_checks s gap lent) (sym call.number_is ∙ zero)

@@ -12,18 +12,17 @@ use Rattle.geometry.specs.Refusal.{accepted, refusal_number, number_of}
 use Rattle.geometry.specs.declared.refusal.Refusal.TheVariants.{NoPlacing}
 use Rattle.geometry.proofs.Split.{clash}
 use Rattle.full.specs.Full.{FullLent, full_checks, FullContract}
-use Rattle.best.specs.declared.answer.Best.{Best}
-use Rattle.best.specs.Best.{BestLent, best_checks, BestContract}
+use Rattle.best.specs.Best.{BestAnswer, BestLent, best_checks, BestContract}
 use Rattle.demands.specs.Compare.{BestAgainstFull}
 use Rattle.demands.proofs.FullNumber.{fits-at-0, none-at-11, answers, fits-exactly}
 use Rattle.demands.proofs.BestAndFull.{best-passed, best-and-full}
 
 -- both calls on one strip, at one gap
-pub record BothRan (s : Strip) (gap : ℕ) (full_entry full_exit : FullLent) (number : ℕ) (best_entry best_exit : BestLent) (answer : Best) : Type 0 where
+pub record BothRan (s : Strip) (gap : ℕ) (full_entry full_exit : FullLent) (number : ℕ) (best_entry best_exit : BestLent) (answer : BestAnswer) : Type 0 where
   pub full-ran : FullContract s gap full_entry full_exit number
   pub best-ran : BestContract s gap best_entry best_exit answer
 
-module _ {s : Strip} {gap : ℕ} {full_entry full_exit : FullLent} {number : ℕ} {best_entry best_exit : BestLent} {answer : Best}
+module _ {s : Strip} {gap : ℕ} {full_entry full_exit : FullLent} {number : ℕ} {best_entry best_exit : BestLent} {answer : BestAnswer}
     (ran : BothRan s gap full_entry full_exit number best_entry best_exit answer) where
   -- one of them is refused by its checks
   not-comparable : (full_checks s gap full_entry ≡ accepted → best_checks s gap best_entry ≡ accepted → ⊥)

@@ -25,7 +25,7 @@ use Rattle.slide.specs.Slide as slide
 use Rattle.slide.specs.Slide.{SlideLent, slide_checks, SlideContract}
 use Rattle.best.specs.Best as best
 use Rattle.best.specs.Best.{BestLent, best_checks, BestContract}
-use Rattle.best.specs.declared.answer.Best.{Best}
+use Rattle.best.specs.Best.{BestAnswer}
 use Rattle.demands.proofs.Refusals.{slide-refused, best-refused}
 
 -- the checks of the three passes in the order before
@@ -61,7 +61,7 @@ pub record OrderChanged : Type 0 where
   -- and what they answer to such a strip
   pub slide-answers : (s : Strip) (g : ℕ) (lent left : SlideLent) (number : ℕ) → SlideContract s g lent left number → LongAndBad s g
       → (number ≡ 8) × (left ≡ lent)
-  pub best-answers : (s : Strip) (g : ℕ) (lent left : BestLent) (answer : Best) → BestContract s g lent left answer → LongAndBad s g
+  pub best-answers : (s : Strip) (g : ℕ) (lent left : BestLent) (answer : BestAnswer) → BestContract s g lent left answer → LongAndBad s g
       → (answer.number ≡ 8) × (answer.sum ≡ 0) × (answer.count ≡ 0) × (left ≡ lent)
 
 -- these strips are those on which the order decides for a call that takes 60 marks

@@ -9,8 +9,7 @@ use Rattle.geometry.proofs.Verdicts.{refusal-positive}
 use Rattle.geometry.proofs.Lent.{same-three}
 use Rattle.full.specs.Full.{FullLent, full_lent, full_checks, FullContract}
 use Rattle.slide.specs.Slide.{SlideLent, slide_lent, slide_checks, SlideContract}
-use Rattle.best.specs.declared.answer.Best.{Best}
-use Rattle.best.specs.Best.{BestLent, best_lent, best_checks, BestContract}
+use Rattle.best.specs.Best.{BestAnswer, BestLent, best_lent, best_checks, BestContract}
 
 module _ (s : Strip) (gap : ℕ) (r : Refusal) where
   -- the three passes in turn; the best pass also gives sum and count 0
@@ -26,7 +25,7 @@ module _ (s : Strip) (gap : ℕ) (r : Refusal) where
       let same = call.where-refused (λ zero. refusal-positive r (sym number_is ∙ zero)) in
       (number_is, same-three slide_lent same.sides-unchanged same.edges-unchanged (rw e at call.work-is))
 
-  pub best-refused : (lent left : BestLent) (answer : Best) → BestContract s gap lent left answer → best_checks s gap lent ≡ refused r
+  pub best-refused : (lent left : BestLent) (answer : BestAnswer) → BestContract s gap lent left answer → best_checks s gap lent ≡ refused r
       → (answer.number ≡ refusal_number r) × (answer.sum ≡ 0) × (answer.count ≡ 0) × (left ≡ lent)
   best-refused lent left answer call e =
       let same = call.where-refused (λ passed. refusal-positive r (ap number_of (sym e ∙ passed))) in (

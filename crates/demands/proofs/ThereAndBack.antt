@@ -6,9 +6,7 @@ use Prim.Native.Nat.{ℕ}
 use lib.ListN.{take}
 use Rattle.geometry.specs.Strip.{Strip, first_marks}
 use Rattle.job.specs.Number.{Bytes}
-use Rattle.job.specs.Calls.{ReadContract, WriteContract}
-use Rattle.job.specs.declared.answer.Read.{Read}
-use Rattle.job.specs.declared.answer.Written.{Written}
+use Rattle.job.specs.Calls.{Read, Written, ReadContract, WriteContract}
 use Rattle.demands.specs.Trips.{JobThereAndBack, MarksThereAndBack}
 use Rattle.demands.proofs.TripsByContracts.{job-back, too-long-back, strip-back, too-short-back}
 

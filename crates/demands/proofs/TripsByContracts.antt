@@ -16,9 +16,7 @@ use Rattle.job.specs.Number.{Bytes}
 use Rattle.job.specs.Outcome.{given, refusal}
 use Rattle.job.specs.Decode.{decode}
 use Rattle.job.specs.Encode.{job_for}
-use Rattle.job.specs.Calls.{shortest, read_into, ReadContract, WriteContract}
-use Rattle.job.specs.declared.answer.Read.{Read}
-use Rattle.job.specs.declared.answer.Written.{Written}
+use Rattle.job.specs.Calls.{Read, Written, shortest, read_into, ReadContract, WriteContract}
 use Rattle.job.proofs.WriteContract.{job-too-long}
 use Rattle.job.proofs.RoundTrips.{same-job, written-then-read, read-then-written, read-too-short}
 use Rattle.job.proofs.ReadStrip.{ReadStrip, read-strip, WrittenJob, written-job}

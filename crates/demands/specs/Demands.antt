@@ -25,9 +25,7 @@ use Rattle.best.specs.LeftOut.{left_out_lem, ListsLeftOut, HeaviestFirst}
 use Rattle.job.specs.Number.{Bytes}
 use Rattle.job.specs.Outcome.{given, refusal}
 use Rattle.job.specs.Encode.{job_for}
-use Rattle.job.specs.Calls.{shortest, read_into, ReadContract, WriteContract}
-use Rattle.job.specs.declared.answer.Read.{Read}
-use Rattle.job.specs.declared.answer.Written.{Written}
+use Rattle.job.specs.Calls.{shortest, read_into, Read, Written, ReadContract, WriteContract}
 
 -- lent lists with the marks of a strip in their used part, "unchanged beyond their used part"
 abbrev pub with_marks : Strip → Strip → Strip

@@ -4,18 +4,29 @@ use Rattle.std.specs.Prelude.{◌≡◌, List, ℕ, ◌≤◌, ◌<◌, length}
 use Rattle.geometry.specs.Strip.{Strip}
 use Rattle.geometry.specs.Refusal.{refusal_number}
 use Rattle.geometry.specs.declared.refusal.Refusal.TheVariants.{ListTooShort}
-use Rattle.job.specs.Calls.{shortest, ReadContract, WriteContract}
-use Rattle.job.specs.declared.answer.Read.{Read}
-use Rattle.job.specs.declared.answer.Written.{Written}
+use Rattle.job.specs.Calls.{shortest, Read, Written, read_answer, written_answer, ReadContract, WriteContract}
 use Rattle.demands.specs.Demands.{NotRead, StripRead, NotWritten, JobWritten}
 use Rattle.demands.specs.declared.trips.Trip as handed
 
--- what a trip hands back of its two calls
+-- What a trip hands back of its two calls: the numbers of the reader and the writer, the count of marks read and the length of the job
+-- written. Where the first call refuses, the second is not made and has its number.
+pub record Trip : Type 0 where
+  pub read : ℕ
+  pub written : ℕ
+  pub count : ℕ
+  pub length : ℕ
+
 abbrev pub read_of : Trip → Read
 read_of r = record { number = r.read; count = r.count }
 
 abbrev pub written_of : Trip → Written
 written_of r = record { number = r.written; length = r.length }
+
+abbrev pub trip_of : handed.Trip → Trip
+trip_of t =
+    let read = read_answer t.read in
+    let made = written_answer t.written in
+    record { read = read.number; written = made.number; count = read.count; length = made.length }
 
 -- The contract: the job, the three lent lists and the copy at entry and at exit, and what is handed back.
 pub record JobThereAndBack (job : List ℕ) (entry exit : Strip) (output copy : List ℕ) (r : Trip) : Type 0 where

@@ -4,11 +4,12 @@
 use mathlib.Core.Path.{◌≡◌, refl, sym, ◌∙◌, ap}
 use mathlib.Core.Bool.{Bool, true, false, not, false≢true}
 use mathlib.Core.List.{List, [], ◌∷◌, ◌++◌}
-use Prim.Native.Nat.{ℕ}
+use Prim.Native.Nat.{ℕ, ◌≤◌}
 use native.Mathlib.Omega.{arith}
 use lib.Dec.{eqb}
 use borrow.Author.Tests.{eqb-false, not-true, ne_eqb}
 use Rattle.std.specs.List.{list_all}
+use Rattle.std.specs.Result.{result_and}
 use Rattle.std.specs.Prelude.{Result, Ok, Err, IsErrAnd, is_ok}
 use Rattle.geometry.specs.Strip.{Strip, most_marks}
 use Rattle.geometry.specs.Entry.{lists_checks, count_checks, value_checks, entry_checks}
@@ -16,8 +17,8 @@ use lib.ListN.{length}
 use Rattle.geometry.specs.Pass.{gap_checks, answer_checks, work_checks, pass_verdict}
 use Rattle.geometry.specs.Refusal.{Refusal, BytesEnd, StrayBit, AbsentValue, OutOfRange, BytesLeftOver, ListsUnequal, TooManyMarks}
 use Rattle.geometry.specs.Refusal.{BadMark, ListTooShort, WorkTooShort, NoPlacing, GapTooWide, StrayByte, refusal_number}
-use Rattle.geometry.specs.Refusal.{Verdict, accepted, refused, number_of, verdict_of, answer_number, Check, after_check, first_failure}
-use Rattle.geometry.proofs.Split.{by_bool, and-fst, and-snd}
+use Rattle.geometry.specs.Refusal.{Verdict, accepted, refused, number_of, verdict_of, answer_number, Check, at_most, after_check, first_failure}
+use Rattle.geometry.proofs.Split.{by_bool, is-leb, and-fst, and-snd}
 
 -- no refusal has the number 0
 pub refusal-positive : (r : Refusal) → refusal_number r ≡ 0 → ⊥
@@ -48,6 +49,10 @@ refused-other r e = refusal-positive r (ap number_of e)
 abbrev pub then : Verdict → Verdict → Verdict
 then accepted w = w
 then (refused r) w = refused r
+
+then-in-turn : (u v w : Verdict) → then (then u v) w ≡ then u (then v w)
+then-in-turn accepted v w = refl
+then-in-turn (refused r) v w = refl
 
 -- a check before two verdicts is a check before the first of them
 after_then : (t : Bool) (r : Refusal) (v w : Verdict) → after_check t r (then v w) ≡ then (after_check t r v) w
@@ -86,18 +91,29 @@ pub handed-on : {A : Type 0} (answer : Result A Refusal) (r : Refusal) → IsErr
 handed-on (Ok values) r e = absurd e
 handed-on (Err q) r e = ap refused e
 
+-- of two answers the first that refuses
+pub and-verdict : {A B : Type 0} (first : Result A Refusal) (second : Result B Refusal)
+    → verdict_of (result_and first second) ≡ then (verdict_of first) (verdict_of second)
+and-verdict (Ok values) second = refl
+and-verdict (Err r) second = refl
+
 -- the verdict of one check, from what the call that made it gave
 pub one-made : (r : Refusal) {t u : Bool} {v : Verdict} → v ≡ after_check t r accepted → t ≡ u
     → first_failure (record { passes = u; otherwise = r } ∷ []) ≡ v
 unfolding first_failure
 one-made r is e = rw (sym e) (sym is)
 
+-- that a count is at most so many, from a test that holds exactly where it is
+pub count-made : (n m : ℕ) (r : Refusal) {t : Bool} {v : Verdict} → v ≡ after_check t r accepted → (t ≡ true → n ≤ m) × (n ≤ m → t ≡ true)
+    → first_failure (at_most n m r ∷ []) ≡ v
+count-made n m r is exactly = one-made r is (is-leb n m exactly)
+
 -- the checks on entry, one after the other
-pub entry-in-turn : (own : List Check) (limit : ℕ) (s : Strip) {six between seven eight last : Verdict} → first_failure (lists_checks s) ≡ six
-    → first_failure own ≡ between → first_failure (count_checks most_marks s) ≡ seven → first_failure (value_checks s) ≡ eight
-    → first_failure (count_checks limit s) ≡ last
-    → first_failure (entry_checks own limit s) ≡ then (then (then (then six between) seven) eight) last
-entry-in-turn own limit s lists is_own count values few =
+pub entry-in-turn : (own : List Check) (limit : ℕ) (s : Strip) {six between early seven eight last : Verdict}
+    → first_failure (lists_checks s) ≡ six → first_failure own ≡ between → then six between ≡ early
+    → first_failure (count_checks most_marks s) ≡ seven → first_failure (value_checks s) ≡ eight → first_failure (count_checks limit s) ≡ last
+    → first_failure (entry_checks own limit s) ≡ then (then early seven) (then eight last)
+entry-in-turn own limit s {eight = eight} {last = last} lists is_own first_two count values few =
     let first = lists_checks s ++ own in
     let second = first ++ count_checks most_marks s in
     let third = second ++ value_checks s in
@@ -108,11 +124,12 @@ entry-in-turn own limit s lists is_own count values few =
       failure-append (lists_checks s) own,
       lists,
       is_own,
+      first_two,
       count,
       values,
       few,
     )
-    refl
+    (then-in-turn _ eight last)
 
 -- and those of a pass
 pub pass-in-turn : (limit : ℕ) (s : Strip) (g shortest named lent : ℕ) {entered nine ten : Verdict}

@@ -94,11 +94,10 @@ fn good_marks(strip: Strip) -> bool
 fn check_marks(strip: Strip, own: Result<(), Refusal>, limit: usize) -> Result<(), Refusal>
     ensures { VerdictOnEntry (verdict_of own) limit (lists_of strip.entry) (verdict_of result) }
 {
-    check(same_lengths(strip), Refusal::ListsUnequal)?;
-    own?;
+    check(same_lengths(strip), Refusal::ListsUnequal).and(own)?;
     check(strip.places.len() <= MOST_MARKS, Refusal::TooManyMarks)?;
-    check(good_marks(strip), Refusal::BadMark)?;
-    check(strip.places.len() <= limit, Refusal::TooManyMarks)
+    let values = check(good_marks(strip), Refusal::BadMark);
+    values.and(check(strip.places.len() <= limit, Refusal::TooManyMarks))
 }
 
 // The checks on entry of the writer, which has none of its own.
