@@ -9,4 +9,4 @@ other_side-other-requires c = found_within _ _ _ _ _ _ _ _ c.loop-d.invariant _ 
 pub loop-d-preserved : goal.loop-d-preserved
 loop-d-preserved c =
     scanned-more _ _ _ _ _ _ _ _ c.loop-d.invariant _ c.furthest_slide-slides.ensures _ _ _
-    (omega arith) c.own_side-own.ensures c.other_side-other.ensures c.max.ensures (omega arith)
+    (omega arith) c.own_side-own.ensures c.other_side-other.ensures (omega arith) (omega arith)
