@@ -5,7 +5,7 @@ use mathlib.Core.Path.{◌≡◌, sym, ◌∙◌, ap, subst}
 use mathlib.Core.Bool.{true, false}
 use mathlib.Core.Logic.{◌↔◌}
 use mathlib.Core.List.{List, [], ◌++◌}
-use Prim.Native.Nat.{ℕ, ◌+◌, ◌≤◌}
+use Prim.Native.Nat.{ℕ, ◌≤◌}
 use native.Mathlib.Omega.{arith}
 use lib.ListN.{length}
 use Rattle.geometry.specs.Strip.{Strip, first_marks, marks_of, most_marks, most_short}
@@ -17,21 +17,12 @@ use Rattle.geometry.proofs.Sliding.{slides-whole}
 use Rattle.geometry.proofs.WholeEdges.{whole-slides}
 use Rattle.job.specs.Outcome.{Outcome, given, refusal}
 use Rattle.job.specs.Decode.{decode}
-use Rattle.job.specs.Calls.{shortest, read_into, ReadContract}
-use Rattle.job.specs.declared.answer.Read.{Read}
+use Rattle.job.specs.Calls.{shortest, read_into, Read, ReadContract}
 use Rattle.job.proofs.Outcomes.{never, given-same}
 use Rattle.job.proofs.ReadStrip.{ReadStrip, read-refused}
-use Rattle.listing.specs.Text.{listing_gap, decimal, refused_word, line_end, marks_line, refused_line, strip_lines, listing_of}
+use Rattle.listing.specs.Text.{listing_gap, decimal, refused_word, line_end, marks_line, strip_lines, listing_of}
 use Rattle.listing.specs.Listing.{said_by, SlidesSomehow, Chosen, TextOf}
-use Rattle.listing.specs.inner.Append.{Appended}
-use Rattle.listing.specs.inner.Lines.{StripLines, Listing}
-use Rattle.listing.proofs.Append.{appended-is, appended-join}
-
--- a text at the front of a buffer
-stands-there : (job before after text : List ℕ) (next : ℕ) → Appended before 0 text after next → TextOf job text → Listing job after next
-stands-there job before after text next p t =
-    let e : next ≡ 0 + length text = p.next-is in
-    record { text = text; text_of = t; stands = p.text; next-is = omega arith }
+use Rattle.listing.specs.inner.Lines.{StripLines}
 
 -- lent lists with room for the most marks say what the job says
 module _ (job : List ℕ) (lent : Strip) (roomy : shortest lent ≡ most_marks) where
@@ -40,21 +31,19 @@ module _ (job : List ℕ) (lent : Strip) (roomy : shortest lent ≡ most_marks) 
   said o e = ap (λ (n : ℕ). decode n job) (sym roomy) ∙ e
 
   -- a refused job has the line "refused" with its number
-  pub refused-listing : (left : Strip) (r : Read) (before after : List ℕ) (next : ℕ) → ReadContract job lent left r → (r.number ≡ 0 → ⊥)
-      → Appended before 0 (refused_word ++ decimal r.number ++ line_end) after next → Listing job after next
+  pub refused-listing : (left : Strip) (r : Read) (text : List ℕ) → ReadContract job lent left r → (r.number ≡ 0 → ⊥)
+      → text ≡ refused_word ++ decimal r.number ++ line_end → TextOf job text
   unfolding listing_of
-  refused-listing left r before after next call nonzero p =
+  refused-listing left r text call nonzero p =
       let q = read-refused job lent left r call nonzero in
       let says = said (refusal q.which) q.says in
-      stands-there job before after (refused_line q.which) next
-      (appended-is p (ap (λ (n : ℕ). refused_word ++ decimal n ++ line_end) q.number_is))
-      (record {
+      record {
         fits = false;
         out = [];
-        text-is = sym (ap (λ (o : Outcome Strip). listing_of o false []) says);
+        text-is = p ∙ ap (λ (n : ℕ). refused_word ++ decimal n ++ line_end) q.number_is ∙ sym (ap (λ (o : Outcome Strip). listing_of o false []) says);
         fits-exactly = λ s e. never q.which s (sym says ∙ e);
         out-chosen = λ s e. never q.which s (sym says ∙ e);
-      })
+      }
 
   -- the strip that was read
   module _ (left : Strip) (r : Read) (m : ReadStrip job lent left r) where
@@ -78,21 +67,19 @@ module _ (job : List ℕ) (lent : Strip) (roomy : shortest lent ≡ most_marks) 
         )
 
     -- its text is the count and the lines below it
-    pub accepted-listing : (before middle after : List ℕ) (next end : ℕ) → Appended before 0 (marks_line r.count) middle next
-        → StripLines (first_marks r.count left) middle next after end → Listing job after end
+    pub accepted-listing : (middle after : List ℕ) → middle ≡ marks_line r.count → StripLines (first_marks r.count left) middle after → TextOf job after
     unfolding listing_of
-    accepted-listing before middle after next end p lines =
+    accepted-listing middle after p lines =
         let s = m.found in
         let fits = slides_whole listing_gap (marks_of s) in
-        let q : StripLines s middle next after end = rw m.used at lines in
-        stands-there job before after (marks_line (length s.places) ++ strip_lines s fits q.out) end
-        (appended-is (appended-join p q.appended) (ap (λ (n : ℕ). marks_line n ++ strip_lines s fits q.out) m.count-is))
-        (record {
+        let q : StripLines s middle after = rw m.used at lines in
+        record {
           fits = fits;
           out = q.out;
-          text-is = sym (ap (λ (o : Outcome Strip). listing_of o fits q.out) says-found);
+          text-is = q.appended ∙ ap (λ (xs : List ℕ). xs ++ strip_lines s fits q.out) (p ∙ ap marks_line m.count-is)
+              ∙ sym (ap (λ (o : Outcome Strip). listing_of o fits q.out) says-found);
           fits-exactly = λ t e. subst (λ (u : Strip). (fits ≡ true) ↔ SlidesSomehow u) (given-same (sym says-found ∙ e)) slides-exactly;
           out-chosen = λ t e short.
               let same = given-same (sym says-found ∙ e) in
               subst (λ (u : Strip). length u.places ≤ most_short → Chosen u q.out) same q.chosen short;
-        })
+        }

@@ -3,12 +3,12 @@
 -- some choice of the greatest sum.
 use mathlib.Core.Path.{◌≡◌, refl, sym, ◌∙◌, ap, ap₂}
 use mathlib.Core.Bool.{Bool, true, false}
-use mathlib.Core.List.{List, map}
+use mathlib.Core.List.{List, ◌∷◌, map}
 use mathlib.Core.Option.{Option, none, some}
 use Prim.Native.Nat.{ℕ, ◌≤◌}
 use native.Mathlib.Omega.{arith}
 use lib.Dec.{eqb}
-use lib.ListN.{length, take, length-map}
+use lib.ListN.{length, take, length-map, length-take}
 use borrow.Author.Tests.{eq-eqb, ne_eqb}
 use Rattle.geometry.specs.Strip.{Strip, marks_of, most_marks}
 use Rattle.geometry.specs.Position.{Position, code}
@@ -23,10 +23,11 @@ use Rattle.geometry.proofs.Lent.{used-is, used-within}
 use Rattle.full.specs.Full.{FullLent, full_checks, full_verdict, positions_after, FullContract}
 use Rattle.slide.specs.Slide.{SlideLent, slide_checks, slide_verdict, SlideContract}
 use Rattle.best.specs.LeftOut.{left_out_lem}
-use Rattle.best.specs.Best.{BestLent, best_checks, AcceptedAnswer, BestContract}
-use Rattle.best.specs.declared.answer.Best.{Best}
-use Rattle.listing.specs.Text.{listing_gap, spaced, full_tail}
-use Rattle.listing.specs.inner.Lines.{tail_of, FullFound, BestFound}
+use Rattle.best.specs.Best.{BestAnswer, BestLent, best_checks, AcceptedAnswer, BestContract}
+use Rattle.std.specs.Prelude.{None, Some}
+use Rattle.std.specs.Borrow.{Bor}
+use Rattle.listing.specs.Text.{listing_gap, spaced, none_word, full_tail}
+use Rattle.listing.specs.inner.Lines.{FullFound, BestFound}
 
 -- the full pass
 module _ (s : Strip) (lent left : FullLent) (number : ℕ) (call : FullContract s listing_gap lent left number)
@@ -40,24 +41,39 @@ module _ (s : Strip) (lent left : FullLent) (number : ℕ) (call : FullContract 
   number_by o e = call.number_is ∙ ap₂ (λ (v : Verdict) (p : Option (List Position)). number_of (full_verdict v p)) passed e
 
   -- the used part of the list has the placing's numbers
-  used : (ps : List Position) → first_placing listing_gap (marks_of s) ≡ some ps → take marks left.positions ≡ map code ps
-  used ps e =
-      let listed : left.positions ≡ written (map code ps) lent.positions =
-      call.positions-are ∙ ap₂ (λ (v : Verdict) (p : Option (List Position)). positions_after v p lent.positions) passed e in
-      let long : length (map code ps) ≡ marks =
-      length-map ps code ∙ free-length listing_gap (marks_of s) ps (found-placing listing_gap (marks_of s) ps e).is_free
-      ∙ length-marks s good.same-lengths good.same-weights in
-      used-is (map code ps) lent.positions listed (sym long)
+  module _ (ps : List Position) (e : first_placing listing_gap (marks_of s) ≡ some ps) where
+    listed : left.positions ≡ written (map code ps) lent.positions
+    listed = call.positions-are ∙ ap₂ (λ (v : Verdict) (p : Option (List Position)). positions_after v p lent.positions) passed e
 
-  -- the end of the line: the numbers of the placing, or "none"
-  by_answer : (o : Option (List Position)) → first_placing listing_gap (marks_of s) ≡ o
-      → tail_of (eqb number 0) (take marks left.positions) ≡ full_tail o
-  by_answer none e = let n = number_by none e in rw (ne_eqb number 0 (λ z. omega arith)) refl
-  by_answer (some ps) e = rw (eq-eqb number 0 (number_by (some ps) e)) (ap spaced (used ps e))
+    long : marks ≡ length (map code ps)
+    long = sym (length-map ps code ∙ free-length listing_gap (marks_of s) ps (found-placing listing_gap (marks_of s) ps e).is_free
+        ∙ length-marks s good.same-lengths good.same-weights)
+
+  -- the end of the line at a refusal, and else the numbers of the placing
+  none_by : (o : Option (List Position)) → first_placing listing_gap (marks_of s) ≡ o → (number ≡ 0 → ⊥) → 32 ∷ none_word ≡ full_tail o
+  none_by none e refused = refl
+  none_by (some ps) e refused = absurd (refused (number_by (some ps) e))
+
+  placed_by : (o : Option (List Position)) → first_placing listing_gap (marks_of s) ≡ o → number ≡ 0
+      → (spaced (take marks left.positions) ≡ full_tail o) × (marks ≤ length left.positions)
+  placed_by none e zero = let n = number_by none e in absurd (omega arith)
+  placed_by (some ps) e zero =
+      (ap spaced (used-is (map code ps) lent.positions (listed ps e) (long ps e)), used-within (map code ps) lent.positions (listed ps e) (long ps e))
 
   -- what the full line says
-  pub full-found : FullFound s (eqb number 0) left.positions
-  full-found = by_answer (first_placing listing_gap (marks_of s)) refl
+  pub full-none : (number ≡ 0 → ⊥) → FullFound s None
+  full-none refused = record { tail = none_by (first_placing listing_gap (marks_of s)) refl refused; few = tt }
+
+  pub full-within : number ≡ 0 → marks ≡ length (take marks left.positions)
+  full-within zero =
+      let within = (placed_by (first_placing listing_gap (marks_of s)) refl zero).1 in omega (arith, within, length-take marks left.positions)
+
+  pub full-found : number ≡ 0 → (found : Bor (List ℕ)) → found.now ≡ take marks left.positions → FullFound s (Some found)
+  full-found zero found is =
+      record {
+        tail = ap spaced is ∙ (placed_by (first_placing listing_gap (marks_of s)) refl zero).0;
+        few = omega (arith, ap length is, length-take marks left.positions);
+      }
 
 -- the slide pass: its number says whether the strip slides
 told : (slides : Bool) (number : ℕ) → number ≡ number_of (slide_verdict accepted slides) → eqb number 0 ≡ slides
@@ -72,7 +88,7 @@ slide-told s lent left number call passed =
     (call.number_is ∙ ap (λ (v : Verdict). number_of (slide_verdict v (slides_whole listing_gap (marks_of s)))) passed)
 
 -- the best pass
-module _ (s : Strip) (lent left : BestLent) (r : Best) (call : BestContract s listing_gap lent left r)
+module _ (s : Strip) (lent left : BestLent) (r : BestAnswer) (call : BestContract s listing_gap lent left r)
     (passed : best_checks s listing_gap lent ≡ accepted) where
   -- what the contract gives past the checks
   answer : AcceptedAnswer s listing_gap lent left r

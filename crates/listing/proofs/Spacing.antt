@@ -1,75 +1,62 @@
--- Numbers, each after a space, put behind a text one after the other: positions and mark numbers are put by two loops over lists of two
--- types, with one invariant.
-use mathlib.Core.Path.{◌≡◌, refl, sym, ◌∙◌, ap, subst}
+-- Numbers, each after a space, put behind a text one after the other: what stands there after some turns, and one number more.
+use mathlib.Core.Path.{◌≡◌, refl, sym, ◌∙◌, ap}
 use mathlib.Core.List.{List, [], ◌∷◌, ◌++◌, append-nil, append_assoc}
-use Prim.Native.Nat.{ℕ, zero, suc, ◌+◌, ◌*◌, ◌≤◌, ◌<◌}
+use Prim.Native.Nat.{ℕ, suc, ◌+◌, ◌<◌}
 use native.Mathlib.Omega.{arith}
-use native.Mathlib.Numerals.{add-one}
 use lib.ListN.{length, get_or, take}
-use lib.Seq.{take-suc}
+use Rattle.std.proofs.lemmas.List.{take_more}
+use Rattle.std.specs.List.{AllZip, each_same}
 use Rattle.listing.specs.Text.{decimal, spaced, out_word, out_line, line_end}
-use Rattle.listing.specs.inner.Append.{Appended}
-use Rattle.listing.proofs.Append.{appended-none, appended-join}
 
--- numbers in two parts
-spaced-append : (xs ys : List ℕ) → spaced (xs ++ ys) ≡ spaced xs ++ spaced ys
+-- one number more behind others
+spaced-more : (xs : List ℕ) (x : ℕ) → spaced (xs ++ x ∷ []) ≡ spaced xs ++ 32 ∷ decimal x
 unfolding spaced
-spaced-append [] ys = refl
-spaced-append (x ∷ xs) ys =
-    ap (λ (rest : List ℕ). (32 ∷ decimal x) ++ rest) (spaced-append xs ys) ∙ sym (append_assoc (32 ∷ decimal x) (spaced xs) (spaced ys))
+spaced-more [] x = append-nil (32 ∷ decimal x)
+spaced-more (y ∷ ys) x =
+    ap (λ (rest : List ℕ). (32 ∷ decimal y) ++ rest) (spaced-more ys x) ∙ sym (append_assoc (32 ∷ decimal y) (spaced ys) (32 ∷ decimal x))
 
--- the numbers up to the next one
-one-more-spaced : (xs : List ℕ) (i : ℕ) → i < length xs → spaced (take (i + 1) xs) ≡ spaced (take i xs) ++ (32 ∷ decimal (get_or xs i 0))
-unfolding spaced
-one-more-spaced xs i h =
-    let e : take (i + 1) xs ≡ take i xs ++ (get_or xs i 0 ∷ []) = rw (add-one i) (take-suc xs i 0 h) in
-    ap spaced e ∙ spaced-append (take i xs) (get_or xs i 0 ∷ [])
-    ∙ ap (λ (rest : List ℕ). spaced (take i xs) ++ rest) (append-nil (32 ∷ decimal (get_or xs i 0)))
+module _ {A : Type 0} (R : A → ℕ → Type 0) where
+  -- as many numbers as what they are converted from
+  pub each-long : (xs : List A) (ys : List ℕ) → AllZip R xs ys → length xs ≡ length ys
+  each-long [] [] h = refl
+  each-long [] (y ∷ ys) h = absurd h
+  each-long (x ∷ xs) [] h = absurd h
+  each-long (x ∷ xs) (y ∷ ys) h = ap suc (each-long xs ys h.1)
 
--- what holds after the first i of count numbers were put
-pub record Spacing (before : List ℕ) (at : ℕ) (xs : List ℕ) (count : ℕ) (after : List ℕ) (next i : ℕ) : Type 0 where
-  pub some : i ≤ count
-  pub listed : count ≤ length xs
-  pub roomy : at + 6 * count ≤ length before
-  pub same_length : length after ≡ length before
-  pub within : next ≤ at + 6 * i
-  pub appended : Appended before at (spaced (take i xs)) after next
+  -- one more at the end
+  each-end : (xs : List A) (ys : List ℕ) (x : A) (y : ℕ) → AllZip R xs ys → R x y → AllZip R (xs ++ x ∷ []) (ys ++ y ∷ [])
+  each-end [] [] x y h r = (r, tt)
+  each-end [] (b ∷ ys) x y h r = absurd h
+  each-end (a ∷ xs) [] x y h r = absurd h
+  each-end (a ∷ xs) (b ∷ ys) x y h r = (h.0, each-end xs ys x y h.1 r)
 
-module _ (before : List ℕ) (at : ℕ) (xs : List ℕ) (count : ℕ) where
-  -- none of them yet
-  pub spacing-none : count ≤ length xs → at + 6 * count ≤ length before → Spacing before at xs count before at 0
+  -- what stands behind a text after the first i numbers
+  pub record Put (before : List ℕ) (xs : List A) (i : ℕ) (after : List ℕ) : Type 0 where
+    pub converted : List ℕ
+    pub each : AllZip R (take i xs) converted
+    pub items : after ≡ before ++ spaced converted
+
+  pub put-none : (before : List ℕ) (xs : List A) → Put before xs 0 before
   unfolding spaced
-  spacing-none h k =
-      record { some = omega arith; listed = h; roomy = k; same_length = refl; within = omega arith; appended = appended-none before at }
+  put-none before xs = record { converted = []; each = tt; items = sym (append-nil before) }
 
-  -- one number more
-  pub spacing-more : (after : List ℕ) (next i : ℕ) (after' : List ℕ) (next' : ℕ) → Spacing before at xs count after next i → i < count
-      → Appended after next ((32 ∷ []) ++ decimal (get_or xs i 0)) after' next' → next' ≤ next + 6 → length after' ≡ length after
-      → Spacing before at xs count after' next' (i + 1)
-  spacing-more after next i after' next' s h p short e =
-      let listed = s.listed in
-      let within = s.within in
+  pub put-more : {before after after' : List ℕ} {xs : List A} {i : ℕ} {x : A} {y : ℕ} → Put before xs i after → i < length xs → x ≡ get_or xs i x
+      → R x y → after' ≡ after ++ 32 ∷ decimal y → Put before xs (i + 1) after'
+  put-more {before} {xs = xs} {i} {x} {y} p h is r e =
+      let more : take (i + 1) xs ≡ take i xs ++ x ∷ [] = take_more xs i x h ∙ ap (λ (z : A). take i xs ++ z ∷ []) (sym is) in
       record {
-        some = omega arith;
-        listed = listed;
-        roomy = s.roomy;
-        same_length = e ∙ s.same_length;
-        within = omega arith;
-        appended = rw (one-more-spaced xs i (omega arith)) (appended-join s.appended p);
+        converted = p.converted ++ y ∷ [];
+        each = rw more (each-end (take i xs) p.converted x y p.each r);
+        items = e ∙ ap (λ (zs : List ℕ). zs ++ 32 ∷ decimal y) p.items ∙ append_assoc before (spaced p.converted) (32 ∷ decimal y)
+            ∙ ap (λ (zs : List ℕ). before ++ zs) (sym (spaced-more p.converted y));
       }
 
-  -- all of them
-  pub spacing-done : (after : List ℕ) (next i : ℕ) → Spacing before at xs count after next i → count ≤ i
-      → Appended before at (spaced (take count xs)) after next × (next ≤ at + 6 * count)
-  spacing-done after next i s h =
-      let some = s.some in
-      let within = s.within in
-      let e : i ≡ count = omega arith in
-      (subst (λ (n : ℕ). Appended before at (spaced (take n xs)) after next) e s.appended, omega arith)
+-- numbers that a conversion leaves as they are
+pub put-same : (before xs : List ℕ) {after : List ℕ} → ((converted : List ℕ) × AllZip (λ x y. y ≡ x) xs converted × (after ≡ before ++ spaced converted))
+    → after ≡ before ++ spaced xs
+put-same before xs p = rw (each_same xs p.0 p.1) at p.2
 
 -- an out line with some number
-pub out_some : (count : ℕ) (xs : List ℕ) → count ≤ length xs → (count ≡ 0 → ⊥)
-    → out_word ++ spaced (take count xs) ++ line_end ≡ out_line (take count xs)
-out_some zero xs h z = absurd (z refl)
-out_some (suc count) [] h z = absurd (omega arith)
-out_some (suc count) (x ∷ xs) h z = refl
+pub out_some : (xs : List ℕ) → 0 < length xs → out_word ++ spaced xs ++ line_end ≡ out_line xs
+out_some [] z = absurd (omega arith)
+out_some (x ∷ xs) z = refl

@@ -2,51 +2,31 @@
 -- digits. A refused job has one line of 14 bytes at most. Else there is a count (12), the word of the full line with at most 4,000 numbers,
 -- each of six bytes with its space (24,005, or 10 for "none"), and the slide, best and out line (11, 20 and 364: at most 60 marks are left
 -- out, since each of them is listed once), or the two lines of a strip that is too long (31).
-use mathlib.Core.Path.{◌≡◌, refl, ◌∙◌, ap}
-use mathlib.Core.Bool.{Bool, true, false, cond}
-use mathlib.Core.List.{List, [], ◌∷◌, ◌++◌, map}
-use mathlib.Core.Option.{Option, none, some}
-use Prim.Native.Nat.{ℕ, ◌+◌, ◌*◌, ◌/◌, ◌%◌, ◌≤◌}
+use mathlib.Core.Path.{◌≡◌, refl, ap}
+use mathlib.Core.Bool.{cond}
+use mathlib.Core.List.{List, [], ◌∷◌, ◌++◌}
+use Prim.Native.Nat.{ℕ, ◌+◌, ◌*◌, ◌≤◌}
 use native.Mathlib.Omega.{arith}
 use lib.Dec.{lit≤}
 use borrow.Author.Tests.{le-leb}
-use lib.ListN.{length, take, length-append, length-map}
+use lib.ListN.{length, take, length-append}
 use Rattle.geometry.specs.Strip.{Strip, marks_of, most_marks, most_short}
-use Rattle.geometry.specs.Position.{Position, code}
 use Rattle.geometry.specs.Lists.{sum_list}
-use Rattle.geometry.specs.Placing.{first_placing, best_sum}
+use Rattle.geometry.specs.Placing.{best_sum}
 use Rattle.geometry.specs.Refusal.{refusal_number}
 use Rattle.geometry.specs.Pass.{written}
 use Rattle.geometry.proofs.Split.{by-leb}
 use Rattle.geometry.proofs.Accepted.{Accepted, entry-accepted, length-marks}
 use Rattle.geometry.proofs.Best.{free-length}
-use Rattle.geometry.proofs.Whole.{found-placing}
 use Rattle.geometry.proofs.Lent.{used-is, used-within}
 use Rattle.best.proofs.ListedFew.{few-left-out}
 use Rattle.job.specs.Number.{Bytes}
 use Rattle.job.specs.Outcome.{Outcome, given, refusal}
 use Rattle.job.proofs.RoundTrips.{read-accepted}
-use Rattle.listing.specs.Text.{
-  listing_gap,
-  digit_at,
-  decimal,
-  spaced,
-  line_end,
-  marks_word,
-  refused_word,
-  marks_line,
-  full_tail,
-  full_line,
-  slide_line,
-  best_line,
-  out_line,
-  too_long_lines,
-  short_lines,
-  strip_lines,
-  listing_of,
-}
+use Rattle.listing.specs.Text.{listing_gap, decimal, marks_word, refused_word, marks_line, full_line, slide_line, best_line, out_line, too_long_lines, short_lines, strip_lines, listing_of}
+use Rattle.listing.proofs.Lengths.{spaced-most, line-most, full-most, slide-most, best-most}
 use Rattle.listing.specs.Listing.{said_by, TextOf, text_most, ListingContract}
-use Rattle.listing.specs.declared.answer.Listed.{Listed}
+use Rattle.listing.specs.Listing.{Listed}
 
 -- two pieces together, and a bound that is wider than need be
 joined-most : (xs ys : List ℕ) {m n : ℕ} → length xs ≤ m → length ys ≤ n → length (xs ++ ys) ≤ m + n
@@ -55,49 +35,10 @@ joined-most xs ys {m} {n} h k = omega (arith, length-append xs ys)
 within : {k m n : ℕ} → k ≤ m → m ≤ n → k ≤ n
 within {k} {m} {n} h l = omega arith
 
--- a digit, a number, numbers each after a space, and a line of one number
-digit-most : (power n : ℕ) → length (digit_at power n) ≤ 1
-digit-most power n = by-leb power n (λ t. length (cond t ((48 + n / power % 10) ∷ []) []) ≤ 1) (λ _. omega arith) (λ _. omega arith)
-
-decimal-most : (n : ℕ) → length (decimal n) ≤ 5
-unfolding decimal
-decimal-most n =
-    simp length-append (omega (arith, digit-most 10000 n, digit-most 1000 n, digit-most 100 n, digit-most 10 n))
-
-spaced-most : (ns : List ℕ) → length (spaced ns) ≤ 6 * length ns
-unfolding spaced
-spaced-most [] = omega arith
-spaced-most (n ∷ ns) = omega (arith, length-append (32 ∷ decimal n) (spaced ns), decimal-most n, spaced-most ns)
-
-line-most : (word : List ℕ) (n : ℕ) → length (word ++ decimal n ++ line_end) ≤ length word + 6
-line-most word n = simp length-append (omega (arith, decimal-most n))
-
--- the end of the full line, of at most n marks
-tail-most : (o : Option (List Position)) (n : ℕ) → ((ps : List Position) → o ≡ some ps → length ps ≤ n) → length (full_tail o) ≤ 6 * n + 5
-tail-most none n few = omega arith
-tail-most (some ps) n few = omega (arith, spaced-most (map code ps), length-map ps code, few ps refl)
-
--- the full line, of at most 4,000 marks
-full-most : (s : Strip) → Accepted most_marks s → length (full_line (marks_of s)) ≤ 24010
-full-most s good =
-    let placed : (ps : List Position) → first_placing listing_gap (marks_of s) ≡ some ps → length ps ≡ length s.places =
-    λ ps e.
-    free-length listing_gap (marks_of s) ps (found-placing listing_gap (marks_of s) ps e).is_free
-    ∙ length-marks s good.same-lengths good.same-weights in
-    let tail = tail-most (first_placing listing_gap (marks_of s)) most_marks (λ ps e. omega (arith, placed ps e, good.few)) in
-    simp length-append (omega (arith, tail))
-
 -- the other lines one by one
 out-most : (out : List ℕ) → length (out_line out) ≤ 6 * length out + 9
 out-most [] = omega arith
 out-most (n ∷ ns) = simp length-append (omega (arith, spaced-most (n ∷ ns)))
-
-slide-most : (fits : Bool) → length (slide_line fits) ≤ 11
-slide-most true = omega arith
-slide-most false = omega arith
-
-best-most : (sum all : ℕ) → length (best_line sum all) ≤ 20
-best-most sum all = simp length-append (omega (arith, decimal-most sum, decimal-most all))
 
 too-long-most : length too_long_lines ≤ 31
 unfolding decimal

@@ -1,18 +1,18 @@
 -- The contract of the listing: its bytes, up to which choice among equal sums is listed.
-use Rattle.std.specs.Prelude.{ℕ, ◌≤◌, ◌≡◌, ◌↔◌, List, Bool, true, leb, length}
+use Rattle.std.specs.Prelude.{ℕ, Result, Ok, Err, ◌≤◌, ◌≡◌, ◌↔◌, List, Bool, true, leb, length}
 use Rattle.geometry.specs.Strip.{Strip, marks_of, most_marks, most_short}
 use Rattle.geometry.specs.Position.{Position}
 use Rattle.geometry.specs.Overlap.{free}
 use Rattle.geometry.specs.Placing.{sum_of, best_sum}
 use Rattle.geometry.specs.Sliding.{Slides}
 use Rattle.geometry.specs.Pass.{written}
-use Rattle.geometry.specs.Refusal.{Verdict, accepted, refused, number_of, after_check}
+use Rattle.geometry.specs.Refusal.{Verdict, accepted, refused, number_of, refusal_number, after_check}
 use Rattle.geometry.specs.declared.refusal.Refusal.TheVariants.{ListTooShort}
 use Rattle.best.specs.LeftOut.{left_out_lem}
 use Rattle.job.specs.Outcome.{Outcome, given}
 use Rattle.job.specs.Decode.{decode}
 use Rattle.listing.specs.Text.{listing_gap, listing_of}
-use Rattle.listing.specs.declared.answer.Listed.{Listed}
+use Rattle.geometry.specs.declared.refusal.Refusal.{Refusal}
 
 -- what a job says, read with room for the most marks
 abbrev pub said_by : List ℕ → Outcome Strip
@@ -48,6 +48,15 @@ text_most = 25000
 -- "9 .. longer than the output": the one check of the call
 abbrev pub listing_verdict : List ℕ → List ℕ → Verdict
 listing_verdict text output = after_check (leb (length text) (length output)) ListTooShort accepted
+
+-- what the call gives: the number and the text's length, 0 at a refusal
+pub record Listed : Type 0 where
+  pub number : ℕ
+  pub length : ℕ
+
+abbrev pub listed_answer : Result ℕ Refusal → Listed
+listed_answer (Ok length) = record { number = 0; length = length }
+listed_answer (Err r) = record { number = refusal_number r; length = 0 }
 
 -- what is handed back and the output afterwards: the text in its used part, or nothing at a refusal
 abbrev pub length_given : Verdict → List ℕ → ℕ

@@ -1,3 +1,2 @@
 -- Definitions that no public contract names.
-pub mod Append
 pub mod Lines

@@ -1,88 +1,84 @@
 // The listing of a job: a library over the contracts of the job reader and the three passes.
 #![tactic(auto)]
 
-pub mod answer;
 mod lines;
 mod passes;
 mod text;
 
-ghost use Rattle.std.specs.Prelude.{◌≤◌, length};
-ghost use Rattle.geometry.specs.Strip.{strip, most_marks, most_short};
-ghost use Rattle.listing.specs.Listing.{ListingContract, text_most};
-ghost use Rattle.listing.specs.inner.Lines.{Ready, ShortLines, StripLines, Listing};
+ghost use Rattle.std.specs.Prelude.{[], ◌≡◌, ◌+◌, ◌≤◌};
+ghost use Rattle.arrayvec.specs.ArrayVec.{array_vec_len};
+ghost use Rattle.geometry.specs.Strip.{lists_of, most_marks, most_short};
+ghost use Rattle.geometry.specs.Refusal.{accepted};
+ghost use Rattle.geometry.specs.Entry.{entry};
+ghost use Rattle.listing.specs.Listing.{ListingContract, TextOf, text_most, listed_answer};
+ghost use Rattle.listing.specs.inner.Lines.{ShortLines, StripLines};
 
-use answer::Listed;
 use geometry::limits::{MOST_MARKS, MOST_SHORT};
-use geometry::refusal::LIST_TOO_SHORT;
+use geometry::refusal::{Refusal, check};
+use geometry::strip::Strip;
+use text::Text;
 
 // No text is longer: a count, at most 4,000 positions and the lines below them.
 pub const TEXT_MOST: usize = 25000;
 
 // The slide, the best and the out line of a short strip.
-fn put_short(places: &[i16], lengths: &[u8], weights: &[u16], text: &mut [u8], at: usize) -> usize
-    requires { Ready most_short (strip places.now lengths.now weights.now) text.old at 420 }
-    ensures { ShortLines
-        (strip places.now lengths.now weights.now) text.old at
-        text.new result }
+#[tactic(auto, using(crate::proofs::Lengths::lengths))]
+fn put_short(strip: Strip, text: &mut Text)
+    requires good { entry most_short (lists_of strip) ≡ accepted }
+    requires room { array_vec_len text.old + 420 ≤ text_most }
+    ensures { ShortLines (lists_of strip.entry) text.old.items text.new.items }
 {
-    let slide = lines::put_slide(text, at, passes::slides(places, lengths, weights));
+    lines::put_slide(text, passes::slides(strip));
     let mut left_out = [0u16; MOST_SHORT];
-    let found = passes::choose(places, lengths, weights, &mut left_out);
-    let sums = lines::put_sums(text, slide, found.sum, passes::total_weight(weights));
-    lines::put_out(text, sums, &left_out, found.count)
+    let found = passes::choose(strip, &mut left_out);
+    lines::put_sums(text, found.sum, passes::total_weight(strip.weights));
+    lines::put_out(text, &left_out[..found.count]);
 }
 
 // The lines of a strip below its count.
-fn put_strip(places: &[i16], lengths: &[u8], weights: &[u16], text: &mut [u8], at: usize) -> usize
-    requires { Ready most_marks (strip places.now lengths.now weights.now) text.old at 24500 }
-    ensures { StripLines
-        (strip places.now lengths.now weights.now) text.old at
-        text.new result }
+fn put_strip(strip: Strip, text: &mut Text)
+    requires good { entry most_marks (lists_of strip) ≡ accepted }
+    requires room { array_vec_len text.old + 24500 ≤ text_most }
+    ensures { StripLines (lists_of strip.entry) text.old.items text.new.items }
 {
     let mut positions = [0u8; MOST_MARKS];
-    let fits = passes::fits(places, lengths, weights, &mut positions);
-    let full = lines::put_full(text, at, fits, &positions, places.len());
-    if MOST_SHORT < places.len() {
-        return lines::put_too_long(text, full);
+    lines::put_full(text, passes::fits(strip, &mut positions));
+    if MOST_SHORT < strip.places.len() {
+        return lines::put_too_long(text);
     }
-    put_short(places, lengths, weights, text, full)
+    put_short(strip, text);
 }
 
-// The whole text of a job, at the front of a buffer that holds the longest one.
-fn put_listing(job: &[u8], text: &mut [u8]) -> usize
-    requires { text_most ≤ length text.old }
-    ensures { Listing job.now text.new result }
+// The whole text of a job.
+#[tactic(auto, using(crate::proofs::Lengths::lengths))]
+fn put_listing(job: &[u8], text: &mut Text)
+    requires { text.old.items ≡ [] }
+    ensures { TextOf job.now text.new.items }
 {
     let mut places = [0i16; MOST_MARKS];
     let mut lengths = [0u8; MOST_MARKS];
     let mut weights = [0u16; MOST_MARKS];
-    let found = job::reader::read(job, &mut places, &mut lengths, &mut weights);
-    if found.number != 0 {
-        return lines::put_refused(text, 0, found.number);
-    }
-    let count = found.count;
-    let counted = lines::put_count(text, 0, count as u32);
-    put_strip(
-        &places[..count],
-        &lengths[..count],
-        &weights[..count],
-        text,
-        counted,
-    )
+    let count = match job::reader::read(job, &mut places, &mut lengths, &mut weights) {
+        Ok(count) => count,
+        Err(refusal) => return lines::put_refused(text, refusal),
+    };
+    let strip = Strip {
+        places: &places[..count],
+        lengths: &lengths[..count],
+        weights: &weights[..count],
+    };
+    lines::put_count(text, count as u32);
+    put_strip(strip, text);
 }
 
 // Writes a job's listing into the output, unless the output is too small for it.
-pub fn listing(job: &[u8], output: &mut [u8]) -> Listed
-    ensures { ListingContract job.now output.old output.new result }
+pub fn listing(job: &[u8], output: &mut [u8]) -> Result<usize, Refusal>
+    ensures { ListingContract job.now output.old output.new (listed_answer result) }
 {
-    let mut text = [0u8; TEXT_MOST];
-    let length = put_listing(job, &mut text);
-    if output.len() < length {
-        return Listed {
-            number: LIST_TOO_SHORT,
-            length: 0,
-        };
-    }
-    text::put_word(output, 0, &text[..length]);
-    Listed { number: 0, length }
+    let mut text = Text::new();
+    put_listing(job, &mut text);
+    let length = text.len();
+    check(length <= output.len(), Refusal::ListTooShort)?;
+    output[..length].copy_from_slice(&text);
+    Ok(length)
 }

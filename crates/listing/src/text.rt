@@ -1,91 +1,63 @@
-// Pieces of text, each put behind what stands in a buffer. Every function gives the position after its piece.
-ghost use Rattle.std.specs.Prelude.{[], ◌∷◌, ◌++◌, ◌+◌, ◌*◌, ◌≤◌, ◌<◌, length, take};
+// A text that knows its own length, and pieces of text, each put behind what stands in it.
+ghost use Rattle.std.specs.Prelude.{List, ℕ, [], ◌∷◌, ◌++◌, ◌+◌, ◌*◌, ◌≡◌, ◌≤◌, ◌<◌, length};
+ghost use Rattle.std.specs.List.{AllZip};
+ghost use Rattle.arrayvec.specs.ArrayVec.{array_vec_len};
 ghost use Rattle.listing.specs.Text.{digit_at, decimal, spaced};
-ghost use Rattle.listing.specs.inner.Append.{Appended};
+ghost use Rattle.listing.specs.Listing.{text_most};
 
-// One byte.
-fn put_byte(buffer: &mut [u8], at: usize, byte: u8) -> usize
-    requires { at < length buffer.old }
-    ensures { Appended buffer.old at (byte ∷ []) buffer.new result }
-{
-    buffer[at] = byte;
-    at + 1
-}
+use crate::TEXT_MOST;
+use arrayvec::ArrayVec;
+
+pub type Text = ArrayVec<u8, TEXT_MOST>;
 
 // A fixed word.
-pub fn put_word(buffer: &mut [u8], at: usize, word: &[u8]) -> usize
-    requires { at + length word.now ≤ length buffer.old }
-    ensures { Appended buffer.old at word.now buffer.new result }
+pub fn put_word(text: &mut Text, word: &[u8])
+    requires { array_vec_len text.old + length word.now ≤ text_most }
+    ensures { text.new.items ≡ text.old.items ++ word.now }
 {
-    let mut i = 0;
-    while i < word.len() {
-        buffer[at + i] = word[i];
-        i += 1;
-    }
-    at + i
+    let _ = text.try_extend_from_slice(word);
 }
 
 // The digit of a number at a power of ten, if the number reaches it.
-fn put_digit(buffer: &mut [u8], at: usize, number: u32, power: u32) -> usize
-    requires { (at < length buffer.old) × (0 < power) }
-    ensures appended { Appended buffer.old at (digit_at power number) buffer.new result }
-    ensures within { result ≤ at + 1 }
+fn put_digit(text: &mut Text, number: u32, power: u32)
+    requires room { array_vec_len text.old < text_most }
+    requires power { 0 < power }
+    ensures { text.new.items ≡ text.old.items ++ digit_at power number }
 {
-    if number < power {
-        return at;
+    if power <= number {
+        text.push(b'0' + (number / power % 10) as u8);
     }
-    put_byte(buffer, at, 48 + (number / power % 10) as u8)
 }
 
 // A number in decimal digits, at most five.
-pub fn put_number(buffer: &mut [u8], at: usize, number: u32) -> usize
-    requires { at + 5 ≤ length buffer.old }
-    ensures appended { Appended buffer.old at (decimal number) buffer.new result }
-    ensures within { result ≤ at + 5 }
+#[tactic(auto, using(crate::proofs::Lengths::lengths), unfolding(crate::specs::Text::decimal))]
+pub fn put_number(text: &mut Text, number: u32)
+    requires { array_vec_len text.old + 5 ≤ text_most }
+    ensures { text.new.items ≡ text.old.items ++ decimal number }
 {
-    let first = put_digit(buffer, at, number, 10000);
-    let second = put_digit(buffer, first, number, 1000);
-    let third = put_digit(buffer, second, number, 100);
-    let fourth = put_digit(buffer, third, number, 10);
-    put_byte(buffer, fourth, 48 + (number % 10) as u8)
+    put_digit(text, number, 10000);
+    put_digit(text, number, 1000);
+    put_digit(text, number, 100);
+    put_digit(text, number, 10);
+    text.push(b'0' + (number % 10) as u8);
 }
 
 // A number after a space.
-fn put_spaced(buffer: &mut [u8], at: usize, number: u32) -> usize
-    requires { at + 6 ≤ length buffer.old }
-    ensures appended { Appended buffer.old at ((32 ∷ []) ++ decimal number) buffer.new result }
-    ensures within { result ≤ at + 6 }
+fn put_spaced(text: &mut Text, number: u32)
+    requires { array_vec_len text.old + 6 ≤ text_most }
+    ensures { text.new.items ≡ text.old.items ++ (32 ∷ decimal number) }
 {
-    let after = put_byte(buffer, at, 32);
-    put_number(buffer, after, number)
+    text.push(b' ');
+    put_number(text, number);
 }
 
-// The first `count` positions, each after a space.
-pub fn put_positions(buffer: &mut [u8], at: usize, positions: &[u8], count: usize) -> usize
-    requires { (count ≤ length positions.now) × (at + 6 * count ≤ length buffer.old) }
-    ensures appended { Appended buffer.old at (spaced (take count positions.now)) buffer.new result }
-    ensures within { result ≤ at + 6 * count }
+// Numbers, each after a space.
+pub fn put_each_spaced<T: Copy + Into<u32>>(text: &mut Text, numbers: &[T])
+    requires { array_vec_len text.old + 6 * length numbers.now ≤ text_most }
+    ensures { (converted : List ℕ) × AllZip T.converts numbers.now converted
+        × (text.new.items ≡ text.old.items ++ spaced converted) }
 {
-    let mut next = at;
-    let mut i = 0;
-    while i < count {
-        next = put_spaced(buffer, next, positions[i] as u32);
-        i += 1;
+    for &number in numbers {
+        put_spaced(text, number.into());
     }
-    next
-}
-
-// The first `count` mark numbers, each after a space.
-pub fn put_marks(buffer: &mut [u8], at: usize, numbers: &[u16], count: usize) -> usize
-    requires { (count ≤ length numbers.now) × (at + 6 * count ≤ length buffer.old) }
-    ensures appended { Appended buffer.old at (spaced (take count numbers.now)) buffer.new result }
-    ensures within { result ≤ at + 6 * count }
-{
-    let mut next = at;
-    let mut i = 0;
-    while i < count {
-        next = put_spaced(buffer, next, numbers[i] as u32);
-        i += 1;
-    }
-    next
 }

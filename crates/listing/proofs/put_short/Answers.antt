@@ -1,17 +1,29 @@
 -- `listing::put_short` meets its contract: the three lines one behind the other, by what the slide and the best pass say.
 use native.Mathlib.Omega.{arith}
-use Rattle.geometry.specs.Strip.{strip, most_short}
+use mathlib.Core.List.{◌++◌}
+use lib.ListN.{take}
+use Rattle.geometry.specs.Strip.{lists_of, most_short}
 use Rattle.geometry.proofs.Accepted.{entry-accepted}
-use Rattle.listing.proofs.StripText.{short-text}
+use Rattle.listing.specs.Text.{slide_line, best_line, out_line}
+use Rattle.listing.proofs.StripText.{joined}
 use Rattle.listing.proofs.put_short.Goals as goal
 
 pub total_weight-requires : goal.total_weight-requires
 total_weight-requires c =
-    let s = strip c.args.places.now c.args.lengths.now c.args.weights.now in
-    let all = entry-accepted most_short s c.requires.strip in
+    let s = lists_of c.args.strip in
+    let all = entry-accepted most_short s c.requires.good in
     omega (arith, all.few, all.same-weights)
 
 pub returns : goal.returns
 returns c =
-    short-text c.slides.ensures c.total_weight.ensures c.choose-found.ensures c.put_slide-slide.ensures.appended
-    c.put_sums-sums.ensures.appended c.put_out.ensures
+    let found = c.choose-found in
+    let before = c.args.text.now.items in
+    let slide = slide_line c.slides.result in
+    let best = best_line found.result.sum c.total_weight.result in
+    let out = out_line (take found.result.count found.new.left_out) in
+    record {
+      out = _;
+      chosen = found.ensures.chosen;
+      appended = rw (← c.slides.ensures, ← found.ensures.sum_is, ← c.total_weight.ensures)
+          (joined before (slide ++ best) out (joined before slide best c.put_slide.ensures c.put_sums.ensures) c.put_out.ensures);
+    }

@@ -1,41 +1,40 @@
 -- `listing::put_strip` meets its contract: the full line, and behind it the lines of a short strip or those of one that is too long.
 use native.Mathlib.Omega.{arith}
-use Prim.Native.Nat.{ℕ}
-use lib.ListN.{length-replicate}
-use Rattle.geometry.specs.Strip.{strip, most_marks, most_short}
+use Rattle.geometry.specs.Strip.{lists_of, most_marks, most_short}
 use Rattle.geometry.proofs.Accepted.{entry-accepted, accept-shorter}
-use Rattle.listing.proofs.StripText.{full-line, long-strip, short-strip}
+use Rattle.listing.proofs.StripText.{few-found, full-line, full-room, long-strip, short-strip}
 use Rattle.listing.proofs.put_strip.Goals as goal
 
-pub put_full-full-requires : goal.put_full-full-requires
-put_full-full-requires c =
-    let good = entry-accepted most_marks (strip c.args.places.now c.args.lengths.now c.args.weights.now) c.requires.strip in (
-      omega (arith, good.few, length-replicate {A = ℕ} most_marks 0),
-      omega (arith, good.few, c.requires.roomy),
-    )
+pub put_full-requires-clause-few : goal.put_full-requires-clause-few
+put_full-requires-clause-few c =
+    let s = lists_of c.args.strip in
+    few-found c.fits.ensures (entry-accepted most_marks s c.requires.good).few
 
 pub put_too_long-requires : goal.put_too_long-requires
 put_too_long-requires c =
-    let good = entry-accepted most_marks (strip c.args.places.now c.args.lengths.now c.args.weights.now) c.requires.strip in
-    omega (arith, good.few, c.requires.roomy, c.put_full-full.ensures.within)
+    let s = lists_of c.args.strip in
+    let before = c.args.text.now.items in
+    let full = full-line s before c.fits.ensures c.put_full.ensures in
+    omega (arith, full-room s before (entry-accepted most_marks s c.requires.good) full c.requires.room)
 
-pub returns-then-places-gt-MOST_SHORT : goal.returns-then-places-gt-MOST_SHORT
-returns-then-places-gt-MOST_SHORT c =
-    let s = strip c.args.places.now c.args.lengths.now c.args.weights.now in
-    long-strip {s = s} c.if-places-gt-MOST_SHORT.true
-    (full-line s c.fits-fits.result _ c.fits-fits.ensures c.put_full-full.ensures.appended) c.put_too_long.ensures
+pub returns-then-strip-gt-MOST_SHORT : goal.returns-then-strip-gt-MOST_SHORT
+returns-then-strip-gt-MOST_SHORT c =
+    let s = lists_of c.args.strip in
+    let before = c.args.text.now.items in
+    long-strip s before (full-line s before c.fits.ensures c.put_full.ensures) c.if-strip-gt-MOST_SHORT.true c.put_too_long.ensures
 
 pub put_short-requires : goal.put_short-requires
 put_short-requires c =
-    let s = strip c.args.places.now c.args.lengths.now c.args.weights.now in
-    let good = entry-accepted most_marks s c.requires.strip in
+    let s = lists_of c.args.strip in
+    let before = c.args.text.now.items in
+    let full = full-line s before c.fits.ensures c.put_full.ensures in
     record {
-      strip = accept-shorter most_marks most_short s c.requires.strip c.if-places-gt-MOST_SHORT.false;
-      roomy = omega (arith, good.few, c.requires.roomy, c.put_full-full.ensures.within);
+      good = accept-shorter most_marks most_short s c.requires.good c.if-strip-gt-MOST_SHORT.false;
+      room = full-room s before (entry-accepted most_marks s c.requires.good) full c.requires.room;
     }
 
 pub returns : goal.returns
 returns c =
-    let s = strip c.args.places.now c.args.lengths.now c.args.weights.now in
-    short-strip {s = s} c.if-places-gt-MOST_SHORT.false
-    (full-line s c.fits-fits.result _ c.fits-fits.ensures c.put_full-full.ensures.appended) c.put_short.ensures
+    let s = lists_of c.args.strip in
+    let before = c.args.text.now.items in
+    short-strip s before (full-line s before c.fits.ensures c.put_full.ensures) c.if-strip-gt-MOST_SHORT.false c.put_short.ensures

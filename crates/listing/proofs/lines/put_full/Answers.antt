@@ -1,17 +1,35 @@
--- `listing::lines::put_full` meets its contract: the fixed line, or the pieces one behind the other.
+-- `listing::lines::put_full` meets its contract: the pieces one behind the other.
+use mathlib.Core.Path.{ap}
+use mathlib.Core.List.{◌++◌}
 use native.Mathlib.Omega.{arith}
-use Rattle.listing.proofs.Append.{appended-join}
+use lib.ListN.{length, length-append}
+use Rattle.listing.specs.Text.{spaced, full_word, line_end}
+use Rattle.listing.proofs.Lengths.{spaced-most}
+use Rattle.listing.proofs.Spacing.{put-same}
+use Rattle.listing.proofs.StripText.{joined}
 use Rattle.listing.proofs.lines.put_full.Goals as goal
 
-pub returns-then-not-fits : goal.returns-then-not-fits
-returns-then-not-fits c =
-    record { appended = rw c.if-not-fits.true c.put_word.ensures; within = omega (arith, c.put_word.ensures.next-is) }
+pub push-requires : goal.push-requires
+push-requires c =
+    let positions = c.in-Some.positions.now in
+    let listed = put-same c.put_word-2.new.text.items positions c.put_each_spaced.ensures in (
+      omega arith,
+      omega (
+        arith,
+        ap length listed,
+        length-append c.put_word-2.new.text.items (spaced positions),
+        spaced-most positions,
+        ap length c.put_word-2.ensures,
+        length-append c.args.text.now.items full_word,
+        c.requires.room,
+        rw c.in-Some.is at c.requires.few,
+      ),
+    )
 
 pub returns : goal.returns
 returns c =
-    record {
-      appended =
-          rw c.if-not-fits.false
-          (appended-join (appended-join c.put_word-worded.ensures c.put_positions-listed.ensures.appended) c.put_word-2.ensures);
-      within = omega (arith, c.put_word-worded.ensures.next-is, c.put_positions-listed.ensures.within, c.put_word-2.ensures.next-is);
-    }
+    let before = c.args.text.now.items in
+    let positions = c.in-Some.positions.now in
+    let listed = put-same c.put_word-2.new.text.items positions c.put_each_spaced.ensures in
+    rw c.in-Some.is (joined before (full_word ++ spaced positions) line_end (joined before full_word (spaced positions) c.put_word-2.ensures listed)
+    c.push.ensures.items)

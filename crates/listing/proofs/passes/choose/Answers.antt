@@ -5,7 +5,7 @@ use native.Mathlib.Omega.{arith}
 use native.Mathlib.Nat.{le_refl}
 use Prim.Native.Nat.{ℕ, ◌≤◌}
 use lib.ListN.{length, replicate, length-replicate}
-use Rattle.geometry.specs.Strip.{Strip, strip, most_short}
+use Rattle.geometry.specs.Strip.{Strip, lists_of, most_short}
 use Rattle.geometry.specs.Refusal.{accepted}
 use Rattle.geometry.specs.Entry.{entry}
 use Rattle.geometry.proofs.Accepted.{entry-accepted, accept-pass}
@@ -29,6 +29,6 @@ passed s listed entered room =
 
 pub returns : goal.returns
 returns c =
-    let s = strip c.args.places.now c.args.lengths.now c.args.weights.now in
+    let s = lists_of c.args.strip in
     let listed = c.args.left_out.now in
     best-found s (lent_to listed) _ _ c.best.ensures (passed s listed c.requires.good c.requires.room)

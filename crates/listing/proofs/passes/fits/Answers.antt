@@ -1,18 +1,18 @@
 -- `listing::passes::fits` meets its contract: by what the full pass says.
-use mathlib.Core.Path.{◌≡◌}
+use mathlib.Core.Path.{◌≡◌, refl}
 use mathlib.Core.List.{List}
 use native.Mathlib.Omega.{arith}
 use native.Mathlib.Nat.{le_refl}
 use Prim.Native.Nat.{ℕ, ◌≤◌}
 use lib.IntN.{pos}
 use lib.ListN.{length, replicate, length-replicate}
-use Rattle.geometry.specs.Strip.{Strip, strip, most_marks}
+use Rattle.geometry.specs.Strip.{Strip, lists_of, most_marks}
 use Rattle.geometry.specs.Refusal.{accepted}
 use Rattle.geometry.specs.Entry.{entry}
 use Rattle.geometry.proofs.Accepted.{entry-accepted, accept-pass}
 use Rattle.full.specs.Full.{FullLent, full_lent, full_checks, work_named}
 use Rattle.listing.specs.Text.{listing_gap}
-use Rattle.listing.proofs.PassAnswers.{full-found}
+use Rattle.listing.proofs.PassAnswers.{full-none, full-within, full-found}
 use Rattle.listing.proofs.passes.fits.Goals as goal
 
 -- what is lent beside the positions: a work area of zeros
@@ -27,9 +27,24 @@ passed s positions entered room =
     accept-pass most_marks s listing_gap _ work_named _ entered (omega arith) (omega (arith, good.few, room))
     (rw (length-replicate work_named (pos 0)) (le_refl work_named))
 
+-- what the contract of the pass gives
+pub returns-then-full-ne0 : goal.returns-then-full-ne0
+returns-then-full-ne0 c =
+    let s = lists_of c.args.strip in
+    let positions = c.args.positions.now in
+    full-none s (lent_to positions) _ _ c.full.ensures (passed s positions c.requires.good c.requires.room)
+    (entry-accepted most_marks s c.requires.good) c.if-full-ne0.true
+
+pub slice_bounds-result-end : goal.slice_bounds-result-end
+slice_bounds-result-end c =
+    let s = lists_of c.args.strip in
+    let positions = c.args.positions.now in
+    full-within s (lent_to positions) _ _ c.full.ensures (passed s positions c.requires.good c.requires.room)
+    (entry-accepted most_marks s c.requires.good) c.if-full-ne0.false
+
 pub returns : goal.returns
 returns c =
-    let s = strip c.args.places.now c.args.lengths.now c.args.weights.now in
+    let s = lists_of c.args.strip in
     let positions = c.args.positions.now in
     full-found s (lent_to positions) _ _ c.full.ensures (passed s positions c.requires.good c.requires.room)
-    (entry-accepted most_marks s c.requires.good)
+    (entry-accepted most_marks s c.requires.good) c.if-full-ne0.false _ refl

@@ -5,7 +5,7 @@ use native.Mathlib.Nat.{le_refl}
 use Prim.Native.Nat.{ℕ}
 use lib.IntN.{pos}
 use lib.ListN.{replicate, length-replicate}
-use Rattle.geometry.specs.Strip.{Strip, strip, most_short}
+use Rattle.geometry.specs.Strip.{Strip, lists_of, most_short}
 use Rattle.geometry.specs.Refusal.{accepted}
 use Rattle.geometry.specs.Entry.{entry}
 use Rattle.geometry.proofs.Accepted.{entry-accepted, accept-pass}
@@ -27,5 +27,5 @@ passed s entered =
 
 pub returns : goal.returns
 returns c =
-    let s = strip c.args.places.now c.args.lengths.now c.args.weights.now in
+    let s = lists_of c.args.strip in
     slide-told s lent _ _ c.slide.ensures (passed s c.requires)
