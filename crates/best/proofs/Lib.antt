@@ -1,7 +1,6 @@
 -- Laws that belong to no one function, in reading order.
 pub mod WorthIsBest
 pub mod SumsAreSmall
-pub mod PositionTests
 pub mod NamedReaches
 pub mod TrialsInTurn
 pub mod CellsHoldWorth

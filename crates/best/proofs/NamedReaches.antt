@@ -23,17 +23,14 @@ use Rattle.geometry.specs.inner.At.{mark_at}
 use Rattle.geometry.specs.inner.Machine.{next_above, next_below}
 use Rattle.geometry.proofs.Split.{lt-or-ge}
 use Rattle.geometry.proofs.Accepted.{every-at}
-use Rattle.geometry.proofs.Dots.{InDots, fetched, range-dots, range-mag}
+use Rattle.geometry.proofs.Dots.{fetched, range-mag}
 use Rattle.best.specs.inner.Names.{name_of, last_after, reach_named, reach_at}
 
--- of places that are all in their range, the dot that the code finds of the one that it reads, and the bounds of that dot
+-- of places that are all in their range, the dot that the code finds of the one that it reads
 module _ (zs : List ℤ) (i : ℕ) (good : list_all place_in_range_lem zs ≡ true) (inside : i < length zs) where
   pub dot-read : (found : ℕ) → found ≡ dot (to_z w16 (of_z w16 (get_or zs i (pos 0)))) → found ≡ dot (get_or zs i (pos 0))
   dot-read found is =
       is ∙ ap dot (fetched (get_or zs i (pos 0)) (range-mag (get_or zs i (pos 0)) (every-at place_in_range_lem zs (pos 0) i good inside)))
-
-  pub dot-bounds : InDots (dot (get_or zs i (pos 0)))
-  dot-bounds = range-dots (get_or zs i (pos 0)) (every-at place_in_range_lem zs (pos 0) i good inside)
 
 -- the reach of a name, by the two tests that the program makes
 module _ (g : ℕ) (zs : List ℤ) (ls : List ℕ) (name : ℕ) where

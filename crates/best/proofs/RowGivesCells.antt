@@ -11,7 +11,7 @@ use lib.ListN.{length, get_or, set}
 use lib.Seq.{get_or-set_other, drop-set-lt}
 use Rattle.geometry.specs.Lists.{greatest_of}
 use Rattle.geometry.specs.Strip.{Strip}
-use Rattle.geometry.specs.Position.{above, below, Direction, leftward, rightward, unlabelled, at}
+use Rattle.geometry.specs.Position.{above, Direction, leftward, rightward, at}
 use Rattle.geometry.proofs.Accepted.{weight-at}
 use Rattle.best.specs.Best.{work_named}
 use Rattle.best.specs.declared.row.Row.{Row}
@@ -91,9 +91,6 @@ module _ (s : Strip) (reaches work : List ℕ) (k x y : ℕ) (row : Row) (shared
           small = record {
             left-first = rw (shared.left_is, shared.place_is) (omega arith);
             light = rw shared.weight_is light;
-            small-leftward = rw shared.leftward-is (omega (arith, small (at below leftward)));
-            small-rightward = rw shared.rightward-is (omega (arith, small (at below rightward)));
-            small-stay = small unlabelled;
             small-left = small (at above leftward);
             small-right = small (at above rightward);
           };

@@ -1,7 +1,7 @@
 // A row of the table, the cells of one last label above, as mark k is counted in. What these cells share is found once, and a cell
 // then follows from it and four numbers without a jump, so that the compiler takes several cells at once.
-ghost use Rattle.std.specs.Prelude.{◌≡◌, ◌≤◌, max};
-ghost use Rattle.best.specs.inner.Row.{most_offer, SmallRow, offered, cell_from};
+ghost use Rattle.std.specs.Prelude.{◌≡◌, ◌≤◌};
+ghost use Rattle.best.specs.inner.Row.{SmallRow, offered, cell_from};
 
 // The reach above, where the label of mark k begins to the left and to the right, its weight, and what it earns with the marks after
 // it below to the left and below to the right. Places are dots here.
@@ -15,26 +15,14 @@ pub struct Row {
     pub rightward: u32,
 }
 
-// The larger of two sums. They are far below 2 to the 31, and signed numbers are the quicker to compare several at once.
-fn larger(a: u32, b: u32) -> u32
-    requires a_small { a ≤ most_offer }
-    requires b_small { b ≤ most_offer }
-    ensures { result ≡ max a b }
-{
-    if (a as i32) < (b as i32) { b } else { a }
-}
-
 // The most that a label earns on a side that reaches to `reach`: `to_left` if it begins at `left`, `to_right` if at `place`, and
 // nothing where it has no room. There is room to the right wherever there is room to the left.
 fn offer(reach: u16, left: u16, place: u16, to_left: u32, to_right: u32) -> u32
-    requires left_first { left ≤ place }
-    requires to_left_small { to_left ≤ most_offer }
-    requires to_right_small { to_right ≤ most_offer }
-    ensures value { result ≡ offered reach left place to_left to_right }
-    ensures small { result ≤ most_offer }
+    requires { left ≤ place }
+    ensures { result ≡ offered reach left place to_left to_right }
 {
     if reach <= left {
-        larger(to_left, to_right)
+        to_left.max(to_right)
     } else if reach <= place {
         to_right
     } else {
@@ -44,7 +32,7 @@ fn offer(reach: u16, left: u16, place: u16, to_left: u32, to_right: u32) -> u32
 
 // A cell of the row, from the reach below, the cell as it is, and the cells of the label above to the left and above to the right.
 pub fn cell(row: Row, reach: u16, stay: u32, above_left: u32, above_right: u32) -> u32
-    requires { SmallRow row stay above_left above_right }
+    requires { SmallRow row above_left above_right }
     ensures { result ≡ cell_from row reach stay above_left above_right }
 {
     let above = offer(
@@ -55,5 +43,5 @@ pub fn cell(row: Row, reach: u16, stay: u32, above_left: u32, above_right: u32) 
         row.weight + above_right,
     );
     let below = offer(reach, row.left, row.place, row.leftward, row.rightward);
-    larger(larger(stay, above), below)
+    stay.max(above).max(below)
 }

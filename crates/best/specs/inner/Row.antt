@@ -38,17 +38,10 @@ cell_from row reach stay above_left above_right =
     max (max stay (offered row.reach row.left row.place (row.weight + above_left) (row.weight + above_right)))
     (offered reach row.left row.place row.leftward row.rightward)
 
--- no sum that is formed is greater: a weight on top of what a cell holds
-abbrev pub most_offer : ℕ
-most_offer = most_sum + most_weight
-
--- what forming the sums of a cell and comparing them asks
-pub record SmallRow (row : Row) (stay above_left above_right : ℕ) : Type 0 where
+-- what forming the sums of a cell and comparing its reaches asks
+pub record SmallRow (row : Row) (above_left above_right : ℕ) : Type 0 where
   pub left-first : row.left ≤ row.place
   pub light : row.weight ≤ most_weight
-  pub small-leftward : row.leftward ≤ most_offer
-  pub small-rightward : row.rightward ≤ most_offer
-  pub small-stay : stay ≤ most_sum
   pub small-left : above_left ≤ most_sum
   pub small-right : above_right ≤ most_sum
 
@@ -64,5 +57,5 @@ pub record CellAsked (row : Row) (reaches work : List ℕ) (k x y : ℕ) : Type 
   pub below-before : y < names_before k
   pub known : y < length reaches
   pub roomy : work_named ≤ length work
-  pub small : SmallRow row (get_or work (cell_of x y) 0) (get_or work (cell_of (name_of k leftward) y) 0)
+  pub small : SmallRow row (get_or work (cell_of (name_of k leftward) y) 0)
       (get_or work (cell_of (name_of k rightward) y) 0)
