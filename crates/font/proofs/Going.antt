@@ -1,7 +1,7 @@
 -- Texts that are gone through one after the other, with what is left of the counts and of the bytes. These belong together as all do, so the
--- next text lies within the bytes, its letters and its count are good, and what is left behind it belongs together again.
+-- next text lies within the bytes, and what is left behind it belongs together again.
 use mathlib.Core.Path.{◌≡◌, refl, sym, ◌∙◌, ap, subst}
-use mathlib.Core.Bool.{true, false, ◌&&◌}
+use mathlib.Core.Bool.{Bool, true, false, ◌&&◌}
 use mathlib.Core.List.{List, [], ◌∷◌, ◌++◌, append-nil}
 use Prim.Native.Nat.{ℕ, ◌+◌, ◌≤◌, ◌<◌}
 use native.Mathlib.Numerals.{add-one}
@@ -22,7 +22,7 @@ use Rattle.font.specs.inner.Counts.{count_fits_lem, ReadableTexts}
 use Rattle.font.proofs.CutTexts.{length-lengths}
 
 -- whether all texts are in range
-abbrev pub all_in_range : List ℕ → List ℕ → mathlib.Core.Bool.Bool
+abbrev pub all_in_range : List ℕ → List ℕ → Bool
 all_in_range rest counts = list_all length_in_range_lem (lengths_of counts rest)
 
 -- the counts that are left: the next, and those behind it
