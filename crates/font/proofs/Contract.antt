@@ -1,7 +1,7 @@
 -- The calls meet their contracts. Each makes its checks in the contract's order, but tests 8 in two parts: the count of bytes, and the
 -- width where the count fits. A length in range has a count that fits, so the test of the count refuses nothing that 8 does not.
 use mathlib.Core.Path.{◌≡◌, refl, sym, ◌∙◌, ap}
-use mathlib.Core.Bool.{true}
+use mathlib.Core.Bool.{Bool, true}
 use mathlib.Core.List.{List, [], ◌∷◌}
 use Prim.Native.Nat.{ℕ, ◌≤◌}
 use lib.Dec.{leb}
@@ -12,17 +12,16 @@ use Rattle.std.specs.List.{list_all}
 use Rattle.geometry.specs.Lists.{sum_list}
 use Rattle.geometry.specs.Mark.{most_length, length_in_range_lem}
 use Rattle.geometry.specs.Strip.{most_marks}
-use Rattle.geometry.specs.Pass.{written}
-use Rattle.geometry.specs.Refusal.{Check, Verdict, accepted, refused, refusal_number, number_of, answer_number, at_most, after_check, first_failure}
+use Rattle.geometry.specs.Refusal.{Check, Verdict, accepted, refused, refusal_number, number_of, at_most, after_check, first_failure}
 use Rattle.geometry.specs.declared.refusal.Refusal.{Refusal}
 use Rattle.geometry.specs.declared.refusal.Refusal.TheVariants.{ListsUnequal, TooManyMarks, ListTooShort}
 use Rattle.geometry.proofs.Split.{by_eqb, one-to}
-use Rattle.geometry.proofs.Verdicts.{refusal-positive, then, failure-append, handed-on, first-passed, one-passed, part-first}
+use Rattle.geometry.proofs.Verdicts.{refusal-positive, then, failure-append, first-passed, one-passed, part-first}
 use Rattle.font.specs.Text.{text_width, longest_beginning_lem, lengths_of}
 use Rattle.font.specs.Calls.{letter_check, length_check, measured_answer, measure_verdict, MeasureContract}
 use Rattle.font.specs.Calls.{beginning_answer, beginning_verdict, BeginningContract}
-use Rattle.font.specs.Calls.{sum_check, lengths_verdict, LengthsContract}
-use Rattle.font.specs.inner.Counts.{most_bytes, count_fits_lem, Readable, ReadableTexts}
+use Rattle.font.specs.Calls.{sum_check, lengths_verdict}
+use Rattle.font.specs.inner.Counts.{most_bytes, count_fits_lem, ReadableTexts}
 use Rattle.font.proofs.Beginnings.{longest-is}
 use Rattle.font.proofs.CutTexts.{counts-of-good}
 use Rattle.font.proofs.Widths.{count-of-good, range-of-some}
@@ -32,35 +31,32 @@ check-then : (c : Check) (cs : List Check) {first rest : Verdict} → first_fail
     → first_failure (c ∷ cs) ≡ then first rest
 check-then c cs is others = failure-append (c ∷ []) cs ∙ rw (is, others) refl
 
+-- 13 and then 8, whose test is made in two parts
+pub in-two-parts : (bytes : List ℕ) (counts lengths : Bool) (cs : List Check) → (lengths ≡ true → counts ≡ true)
+    → first_failure (letter_check bytes ∷ length_check counts ∷ length_check lengths ∷ cs) ≡ first_failure (letter_check bytes ∷ length_check lengths ∷ cs)
+unfolding first_failure
+in-two-parts bytes counts lengths cs needs =
+    let letters = letter_check bytes in
+    ap (after_check letters.passes letters.otherwise) (part-first counts (length_check lengths) cs needs)
+
 module _ (text : List ℕ) where
-  -- the checks of `measure` as it makes them
+  -- the checks of `measure` as it makes them, one after the other
   abbrev count_check : Check
   count_check = length_check (count_fits_lem (length text))
 
   abbrev width_check : Check
   width_check = length_check (length_in_range_lem (text_width text))
 
-  in-parts : measure_verdict text ≡ first_failure (letter_check text ∷ count_check ∷ width_check ∷ [])
-  unfolding measure_verdict first_failure
-  in-parts =
-      let letters = letter_check text in
-      sym (ap (after_check letters.passes letters.otherwise) (part-first (count_fits_lem (length text)) width_check [] (count-of-good text)))
-
-  -- one after the other
   pub measure-in-turn : {letters count width : Verdict} → first_failure (letter_check text ∷ []) ≡ letters → first_failure (count_check ∷ []) ≡ count
       → first_failure (width_check ∷ []) ≡ width → measure_verdict text ≡ then letters (then count width)
-  measure-in-turn letters count width = in-parts ∙ check-then (letter_check text) _ letters (check-then count_check _ count width)
+  unfolding measure_verdict
+  measure-in-turn letters count width =
+      sym (in-two-parts text (count_fits_lem (length text)) (length_in_range_lem (text_width text)) [] (count-of-good text))
+      ∙ check-then (letter_check text) _ letters (check-then count_check _ count width)
 
-  -- the width is asked for behind the first two, and decides
-  module _ (letters : first_failure (letter_check text ∷ []) ≡ accepted) (count : first_failure (count_check ∷ []) ≡ accepted) where
-    count-within : (1 ≤ length text) × (length text ≤ most_bytes)
-    count-within = one-to most_bytes (length text) (one-passed count_check count)
-
-    pub readable : Readable text
-    readable = record { letters-good = one-passed (letter_check text) letters; few = count-within.1 }
-
-    pub range-is : leb (text_width text) most_length ≡ length_in_range_lem (text_width text)
-    range-is = sym (range-of-some text count-within.0)
+  -- the width is asked for behind the first two: that a text of some bytes is not too wide is then the whole of its test
+  pub range-is : first_failure (count_check ∷ []) ≡ accepted → leb (text_width text) most_length ≡ length_in_range_lem (text_width text)
+  range-is count = sym (range-of-some text (one-to most_bytes (length text) (one-passed count_check count)).0)
 
   -- a refusal, and the length
   pub not-measured : (answer : Result ℕ Refusal) (r : Refusal) → IsErrAnd answer (λ e. e ≡ r) → measure_verdict text ≡ refused r
@@ -106,13 +102,12 @@ module _ (texts counts : List ℕ) (room : ℕ) where
       ≡ first_failure (sum_check texts counts ∷ marks_check ∷ letter_check texts ∷ counts_check ∷ lengths_check ∷ room_check ∷ [])
   unfolding lengths_verdict first_failure
   texts-in-parts =
-      let letters = letter_check texts in
       by_eqb (sum_list counts) (length texts)
-      (λ t. after_check t ListsUnequal (first_failure (marks_check ∷ letters ∷ lengths_check ∷ room_check ∷ []))
-      ≡ after_check t ListsUnequal (first_failure (marks_check ∷ letters ∷ counts_check ∷ lengths_check ∷ room_check ∷ [])))
+      (λ t. after_check t ListsUnequal (first_failure (marks_check ∷ letter_check texts ∷ lengths_check ∷ room_check ∷ []))
+      ≡ after_check t ListsUnequal (first_failure (marks_check ∷ letter_check texts ∷ counts_check ∷ lengths_check ∷ room_check ∷ [])))
       (λ sum.
-      let parts = part-first (list_all count_fits_lem counts) lengths_check (room_check ∷ []) (counts-of-good counts texts sum) in
-      ap (λ (v : Verdict). after_check marks_check.passes TooManyMarks (after_check letters.passes letters.otherwise v)) (sym parts))
+      let parts = in-two-parts texts counts_check.passes lengths_check.passes (room_check ∷ []) (counts-of-good counts texts sum) in
+      ap (after_check marks_check.passes TooManyMarks) (sym parts))
       (λ _. refl)
 
   -- one after the other
@@ -126,17 +121,7 @@ module _ (texts counts : List ℕ) (room : ℕ) where
       (check-then marks_check _ seven
       (check-then (letter_check texts) _ letters (check-then counts_check _ few (check-then lengths_check _ range nine))))
 
-  -- past the first four the texts can be measured
-  pub readable-texts : first_failure (sum_check texts counts ∷ []) ≡ accepted → first_failure (letter_check texts ∷ []) ≡ accepted
-      → first_failure (counts_check ∷ []) ≡ accepted → ReadableTexts texts counts
-  readable-texts six letters few =
-      record {
-        adds-up = eqb-true (sum_list counts) (length texts) (one-passed (sum_check texts counts) six);
-        letters-good = one-passed (letter_check texts) letters;
-        counts-good = one-passed counts_check few;
-      }
-
-  -- past all checks they can, their lengths are in range, and the list is long enough
+  -- past all checks the texts can be measured, their lengths are in range, and the list is long enough
   pub accepted-parts : lengths_verdict texts counts room ≡ accepted
       → ReadableTexts texts counts × (list_all length_in_range_lem (lengths_of counts texts) ≡ true) × (length counts ≤ room)
   unfolding lengths_verdict
@@ -150,13 +135,3 @@ module _ (texts counts : List ℕ) (room : ℕ) where
         eight.0,
         leb-true (length counts) room (one-passed room_check eight.1),
       )
-
-module _ (texts counts entry : List ℕ) where
-  -- `lengths`: a refusal, and the lengths
-  pub not-filled : {A : Type 0} (answer : Result A Refusal) (r : Refusal) → IsErrAnd answer (λ e. e ≡ r)
-      → refused r ≡ lengths_verdict texts counts (length entry) → LengthsContract texts counts entry entry (answer_number answer)
-  not-filled answer r is decides = record { number_is = ap number_of (handed-on answer r is ∙ decides); lengths-are = rw (← decides) refl }
-
-  pub filled-texts : {exit : List ℕ} → accepted ≡ lengths_verdict texts counts (length entry) → exit ≡ written (lengths_of counts texts) entry
-      → LengthsContract texts counts entry exit 0
-  filled-texts decides filled = record { number_is = ap number_of decides; lengths-are = rw (← decides) filled }

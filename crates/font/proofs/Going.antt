@@ -1,28 +1,28 @@
 -- Texts that are gone through one after the other, with what is left of the counts and of the bytes. These belong together as all do, so the
--- next text lies within the bytes, its letters and its count are good, and what is left behind it belongs together again.
+-- next text lies within the bytes, and what is left behind it belongs together again.
 use mathlib.Core.Path.{◌≡◌, refl, sym, ◌∙◌, ap, subst}
-use mathlib.Core.Bool.{true, false, ◌&&◌}
+use mathlib.Core.Bool.{Bool, true, false, ◌&&◌}
 use mathlib.Core.List.{List, [], ◌∷◌, ◌++◌, append-nil}
 use Prim.Native.Nat.{ℕ, ◌+◌, ◌≤◌, ◌<◌}
 use native.Mathlib.Numerals.{add-one}
 use native.Mathlib.Omega.{arith}
 use lib.ListN.{length, get_or, take, drop, set, length-drop, drop_of_length-le}
-use lib.Seq.{drop-cons, length-take-le, append_snoc}
+use lib.Seq.{drop-cons, append_snoc}
 use Rattle.geometry.specs.Lists.{sum_list}
 use Rattle.std.specs.List.{list_all}
 use Rattle.geometry.specs.Mark.{most_length, length_in_range_lem}
 use Rattle.geometry.specs.Pass.{written}
 use Rattle.geometry.proofs.Accepted.{first_good, rest-good}
-use Rattle.geometry.proofs.Every.{every_take, every_drop}
+use Rattle.geometry.proofs.Every.{every_drop}
 use Rattle.geometry.proofs.Lent.{take_more, drop_more, written-whole}
 use Rattle.geometry.proofs.Split.{one-to}
 use Rattle.font.specs.Letters.{in_font_lem}
 use Rattle.font.specs.Text.{text_width, texts_of, lengths_of}
-use Rattle.font.specs.inner.Counts.{most_bytes, count_fits_lem, Readable, ReadableTexts}
+use Rattle.font.specs.inner.Counts.{count_fits_lem, ReadableTexts}
 use Rattle.font.proofs.CutTexts.{length-lengths}
 
 -- whether all texts are in range
-abbrev pub all_in_range : List ℕ → List ℕ → mathlib.Core.Bool.Bool
+abbrev pub all_in_range : List ℕ → List ℕ → Bool
 all_in_range rest counts = list_all length_in_range_lem (lengths_of counts rest)
 
 -- the counts that are left: the next, and those behind it
@@ -46,20 +46,6 @@ module _ (rest counts : List ℕ) (i : ℕ) (left : ReadableTexts rest (drop i c
   pub next-within : next ≤ length rest
   unfolding sum_list
   next-within = omega (arith, as-next.adds-up)
-
-  next_fits : (1 ≤ next) × (next ≤ most_bytes)
-  next_fits = one-to most_bytes next (first_good count_fits_lem next behind as-next.counts-good)
-
-  text-long : length (take next rest) ≡ next
-  text-long = length-take-le next rest next-within
-
-  -- it has a width, and some bytes
-  pub text-readable : Readable (take next rest)
-  text-readable =
-      record { letters-good = every_take in_font_lem next rest as-next.letters-good; few = omega (arith, text-long, next_fits) }
-
-  pub text-some : 1 ≤ length (take next rest)
-  text-some = omega (arith, text-long, next_fits)
 
   -- one text further
   pub behind-readable : ReadableTexts (drop next rest) behind

@@ -1,4 +1,5 @@
-// Many texts in one byte list: their checks in order, and their lengths.
+// Many texts in one byte list: their checks in order, and their lengths. Bytes and counts stay two parameters: as fields of a struct,
+// which one call would make for three functions, they would only have longer names in each clause.
 ghost use Rattle.std.specs.Prelude.{◌≡◌, true, ◌≤◌, eqb, length};
 ghost use Rattle.geometry.specs.Lists.{sum_list};
 ghost use Rattle.std.specs.List.{list_all};
@@ -81,8 +82,8 @@ pub fn fill(font: &Font, texts: &[u8], counts: &[u16], lengths: &mut [u8])
     ensures { lengths.new ≡ written (lengths_of counts.now texts.now) lengths.old }
 {
     let mut rest = texts;
-    for i in 0..counts.len() {
-        let (text, after) = rest.split_at(counts[i] as usize);
+    for (i, count) in counts.iter().enumerate() {
+        let (text, after) = rest.split_at(*count as usize);
         lengths[i] = width(font, text) as u8;
         rest = after;
     }

@@ -3,16 +3,11 @@ use mathlib.Core.Path.{sym, ap, ◌∙◌}
 use native.Mathlib.Omega.{arith}
 use Rattle.geometry.specs.Mark.{length_in_range_lem}
 use Rattle.font.specs.Text.{text_width}
-use Rattle.font.proofs.Going.{next-within, text-readable, text-some, behind-readable, left-fails, left-passes, none-left}
+use Rattle.font.proofs.Going.{next-within, behind-readable, left-fails, left-passes, none-left}
 use Rattle.font.proofs.texts.all_fit.Goals as goal
 
 pub split_at-requires : goal.split_at-requires
 split_at-requires c = next-within _ _ _ c.loop-count.invariant.left c.loop-count-test.true
-
-pub text_fits-requires : goal.text_fits-requires
-text_fits-requires c =
-    let left = c.loop-count.invariant.left in
-    rw c.split_at.ensures.front (text-readable _ _ _ left c.loop-count-test.true, text-some _ _ _ left c.loop-count-test.true)
 
 pub returns-then-not-text_fits : goal.returns-then-not-text_fits
 returns-then-not-text_fits c =

@@ -2,7 +2,7 @@
 use mathlib.Core.Path.{refl, sym, ◌∙◌}
 use Rattle.geometry.specs.declared.refusal.Refusal.TheVariants.{ListsUnequal, TooManyMarks, BadMark, ListTooShort, StrayByte}
 use Rattle.geometry.proofs.Verdicts.{handed-on, one-made}
-use Rattle.font.proofs.Contract.{texts-in-turn, readable-texts}
+use Rattle.font.proofs.Contract.{texts-in-turn}
 use Rattle.font.proofs.texts.check_texts.Goals as goal
 
 pub returns-in_err-check : goal.returns-in_err-check
@@ -34,13 +34,6 @@ returns-in_err-check-4 c =
     let letters = one-made StrayByte c.in_ok-check-3.ensures c.all_in_font.ensures in
     let few = one-made BadMark c.in_err-check-4.ensures c.counts_fit.ensures in
     handed-on _ _ c.from_residual-in_err-check-4.ensures.1 ∙ sym (texts-in-turn a.texts.now a.counts.now a.room six seven letters few refl refl)
-
-pub all_fit-requires : goal.all_fit-requires
-all_fit-requires c =
-    let a = c.args in
-    let six = one-made ListsUnequal c.in_ok-check.ensures c.counts_add_up.ensures in
-    let letters = one-made StrayByte c.in_ok-check-3.ensures c.all_in_font.ensures in
-    readable-texts a.texts.now a.counts.now a.room six letters (one-made BadMark c.in_ok-check-4.ensures c.counts_fit.ensures)
 
 pub returns-in_err-check-5 : goal.returns-in_err-check-5
 returns-in_err-check-5 c =

@@ -2,14 +2,11 @@
 use mathlib.Core.Path.{ap, ◌∙◌}
 use native.Mathlib.Omega.{arith}
 use Rattle.font.specs.Text.{text_width}
-use Rattle.font.proofs.Going.{next-within, text-readable, next_small, filling-on, filling-ends}
+use Rattle.font.proofs.Going.{next-within, next_small, filling-on, filling-ends}
 use Rattle.font.proofs.texts.fill.Goals as goal
 
 pub split_at-requires : goal.split_at-requires
 split_at-requires c = next-within _ _ _ c.loop-i.invariant.left c.loop-i-test.true
-
-pub width-requires : goal.width-requires
-width-requires c = rw c.split_at.ensures.front (text-readable _ _ _ c.loop-i.invariant.left c.loop-i-test.true)
 
 pub overflow_cast-lengths : goal.overflow_cast-lengths
 overflow_cast-lengths c =
