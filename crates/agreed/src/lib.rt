@@ -1,4 +1,4 @@
-// What the test programs share: how many comparisons agree and the lines that say so, short lists, and left-out lists.
+// What the test programs share: how many comparisons agree and the lines that say so, lists that are lent or written, and left-out lists.
 #![tactic(auto)]
 
 pub mod left_out;

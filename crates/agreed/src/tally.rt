@@ -3,15 +3,22 @@
 use crate::output::Output;
 use std::fmt::{Display, Write};
 
+// The number of an answer: 0, or that of the refusal.
+fn number<T>(answer: &Result<T, u8>) -> u8 {
+    match answer {
+        Ok(_) => 0,
+        Err(refusal) => *refusal,
+    }
+}
+
 #[derive(Clone, Copy)]
-pub struct Group {
-    name: &'static str,
+pub struct Tally {
     agreed: u32,
 }
 
-impl Group {
-    pub fn new(name: &'static str) -> Group {
-        Group { name, agreed: 0 }
+impl Tally {
+    pub fn new() -> Tally {
+        Tally { agreed: 0 }
     }
 
     // Counts a comparison if it agrees.
@@ -33,46 +40,34 @@ impl Group {
         self.same(case, u8::from(is_so), 1);
     }
 
-    // The line of the group.
-    pub fn print(&self) {
-        let name = self.name;
+    // One comparison: of the numbers, which are 0 where a call is not refused.
+    pub fn same_number<T, U>(&mut self, case: u32, got: &Result<T, u8>, wanted: &Result<U, u8>) {
+        self.same(case, number(got), number(wanted));
+    }
+
+    // Two comparisons: of the numbers, and of the values, which are 0 at a refusal.
+    pub fn same_answer<T: Copy + PartialEq + Display + Default>(
+        &mut self,
+        case: u32,
+        got: Result<T, u8>,
+        wanted: Result<T, u8>,
+    ) {
+        self.same_number(case, &got, &wanted);
+        self.same(case, got.unwrap_or_default(), wanted.unwrap_or_default());
+    }
+
+    // The line of the group that has this name.
+    pub fn print(&self, name: &str) {
         let agreed = self.agreed;
         let _ = writeln!(Output, "{name} {agreed} agree");
     }
 }
 
-// The same for a count that is handed on, for a group whose name comes with its line.
-pub fn counted(count: u32, test: bool) -> u32 {
-    count.wrapping_add(u32::from(test))
-}
-
-fn same<T: Copy + PartialEq + Display>(agreed: u32, case: u32, got: T, wanted: T) -> u32 {
-    let mut group = Group { name: "", agreed };
-    group.same(case, got, wanted);
-    group.agreed
-}
-
-pub fn same_byte(agreed: u32, case: u32, got: u8, wanted: u8) -> u32 {
-    same(agreed, case, got, wanted)
-}
-
-pub fn same_number(agreed: u32, case: u32, got: u32, wanted: u32) -> u32 {
-    same(agreed, case, got, wanted)
-}
-
-pub fn same_count(agreed: u32, case: u32, got: usize, wanted: usize) -> u32 {
-    same(agreed, case, got, wanted)
-}
-
-pub fn holds(agreed: u32, case: u32, is_so: bool) -> u32 {
-    same(agreed, case, u8::from(is_so), 1)
-}
-
-pub fn print_group(name: &[u8], agreed: u32) {
-    io::write_all(1, name);
-    let _ = writeln!(Output, " {agreed} agree");
-}
-
-pub fn begins_with(list: &[u8], wanted: &[u8]) -> bool {
-    list.starts_with(wanted)
+// Runs the cases of a group, and prints its line.
+pub fn group<F: FnOnce(&mut Tally)>(name: &str, cases: F)
+    requires { F.IsAlwaysCallable cases }
+{
+    let mut tally = Tally::new();
+    cases(&mut tally);
+    tally.print(name);
 }

@@ -2,7 +2,7 @@
 use crate::draw::{Draw, Source};
 use crate::strip::Drawn;
 use agreed::output::Output;
-use agreed::tally::Group;
+use agreed::tally::Tally;
 use std::fmt::Write;
 
 // What a strip shows of a pass: it disagrees, or agrees, or agrees and has a label for every mark.
@@ -26,25 +26,25 @@ impl Outcome {
 // How many strips of a group agree, and in how many every mark has a label.
 #[derive(Clone, Copy)]
 struct Strips {
-    group: Group,
+    tally: Tally,
     whole: u32,
 }
 
 impl Strips {
-    fn new(name: &'static str) -> Strips {
-        let group = Group::new(name);
-        Strips { group, whole: 0 }
+    fn new() -> Strips {
+        let tally = Tally::new();
+        Strips { tally, whole: 0 }
     }
 
     fn count(&mut self, outcome: Outcome) {
         let is_whole = outcome == Outcome::AgreesWhole;
-        self.group.count(outcome != Outcome::Disagrees);
+        self.tally.count(outcome != Outcome::Disagrees);
         self.whole = self.whole.wrapping_add(u32::from(is_whole));
     }
 
-    fn print(&self) {
+    fn print(&self, name: &str) {
         let whole = self.whole;
-        self.group.print();
+        self.tally.print(name);
         let _ = writeln!(Output, "  every mark labelled in {whole}");
     }
 }
@@ -70,16 +70,11 @@ fn gap_of(strip: u32) -> u8 {
 }
 
 // A group: the strips from a seed on, each given to what compares a pass with the search.
-pub fn random<F: Fn(&Drawn) -> Outcome + Drop>(
-    name: &'static str,
-    seed: u64,
-    draw: Draw,
-    compared: F,
-)
+pub fn random<F: Fn(&Drawn) -> Outcome + Drop>(name: &str, seed: u64, draw: Draw, compared: F)
     requires { F.IsAlwaysCallable compared }
 {
     let mut source = Source::new(seed);
-    let mut strips = Strips::new(name);
+    let mut strips = Strips::new();
     for strip in 0..STRIPS {
         let drawn = draw.strip(&mut source, gap_of(strip));
         let outcome = compared(&drawn);
@@ -88,5 +83,5 @@ pub fn random<F: Fn(&Drawn) -> Outcome + Drop>(
         }
         strips.count(outcome);
     }
-    strips.print();
+    strips.print(name);
 }

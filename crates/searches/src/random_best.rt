@@ -5,13 +5,13 @@ use crate::random::Outcome;
 use crate::strip::Drawn;
 use crate::{labels, sums};
 use agreed::{left_out, lists};
+use best::choice::Choice;
+use geometry::refusal::Refusal;
 
-// What the pass hands back.
+// What the pass hands back where it is not refused.
 #[derive(Clone, Copy)]
 struct Answer {
-    number: u8,
-    sum: u32,
-    count: usize,
+    choice: Choice,
     positions: [u8; 8],
     left_out: [u16; 8],
 }
@@ -20,50 +20,47 @@ impl Answer {
     // Whether the positions are an overlap-free choice that earns the sum, and it is the greatest.
     fn earns(&self, drawn: &Drawn) -> bool {
         labels::clash(Model::Best, drawn, &self.positions).is_none()
-            && sums::sum_of(drawn, &self.positions) == self.sum
-            && sums::greatest_sum(drawn) == self.sum
+            && sums::sum_of(drawn, &self.positions) == self.choice.sum
+            && sums::greatest_sum(drawn) == self.choice.sum
     }
 
     // Whether all that the pass gave is right.
     fn agrees(&self, drawn: &Drawn) -> bool {
         let lists = drawn.lists();
-        self.number == 0
-            && self.earns(drawn)
+        self.earns(drawn)
             && left_out::is_left_out_list(
                 &self.positions,
-                lists.weights(),
+                lists.strip().weights,
                 &self.left_out,
-                self.count,
+                self.choice.count,
             )
     }
 }
 
 // The call of the pass.
-fn answered(drawn: &Drawn) -> Answer {
+fn answered(drawn: &Drawn) -> Result<Answer, Refusal> {
     let lists = drawn.lists();
     let mut positions = [lists::UNWRITTEN; 8];
     let mut left_out = [lists::UNWRITTEN_NUMBER; 8];
     let mut work = [0u32; best::WORK_NAMED];
-    let best = best::best(
-        lists.places(),
-        lists.lengths(),
-        lists.weights(),
+    let choice = best::best(
+        lists.strip(),
         drawn.gap,
         &mut positions,
         &mut left_out,
         &mut work,
-    );
-    Answer {
-        number: best.number,
-        sum: best.sum,
-        count: best.count,
+    )?;
+    Ok(Answer {
+        choice,
         positions,
         left_out,
-    }
+    })
 }
 
-// One strip.
+// One strip. The best pass has an answer for each, so a refusal disagrees.
 pub fn compared(drawn: &Drawn) -> Outcome {
-    let answer = answered(drawn);
-    Outcome::new(answer.agrees(drawn), answer.count == 0)
+    match answered(drawn) {
+        Ok(answer) => Outcome::new(answer.agrees(drawn), answer.choice.count == 0),
+        Err(_) => Outcome::Disagrees,
+    }
 }

@@ -5,22 +5,23 @@ use crate::search::Placing;
 use crate::strip::Drawn;
 use crate::{labels, search};
 use agreed::lists;
-use geometry::refusal;
+use geometry::refusal::Refusal;
 
-// What a pass that looks for positions of all marks hands back.
+// What a pass that looks for positions of all marks hands back, with what it gives beside them.
 #[derive(Clone, Copy)]
-pub struct Answer {
-    pub number: u8,
+pub struct Answer<T> {
+    pub given: Result<T, Refusal>,
     pub positions: [u8; 8],
 }
 
-impl Answer {
+impl<T: Copy> Answer<T> {
     // Whether the pass gives what the search found; where that is nothing, it writes no position.
     pub fn agrees(self, drawn: &Drawn, found: Placing) -> bool {
         match found {
-            Ok(Some(digits)) => self.number == 0 && self.positions == wanted(drawn, &digits),
+            Ok(Some(digits)) => self.given.is_ok() && self.positions == wanted(drawn, &digits),
             Ok(None) => {
-                self.number == refusal::NO_PLACING && self.positions == [lists::UNWRITTEN; 8]
+                matches!(self.given, Err(Refusal::NoPlacing))
+                    && self.positions == [lists::UNWRITTEN; 8]
             }
             Err(search::Unfinished) => false,
         }
@@ -37,24 +38,17 @@ fn wanted(drawn: &Drawn, digits: &Digits) -> [u8; 8] {
 }
 
 // The call of the pass.
-fn answered(drawn: &Drawn) -> Answer {
+fn answered(drawn: &Drawn) -> Answer<()> {
     let lists = drawn.lists();
     let mut positions = [lists::UNWRITTEN; 8];
     let mut work = [0i16; full::WORK_NAMED];
-    let number = full::full(
-        lists.places(),
-        lists.lengths(),
-        lists.weights(),
-        drawn.gap,
-        &mut positions,
-        &mut work,
-    );
-    Answer { number, positions }
+    let given = full::full(lists.strip(), drawn.gap, &mut positions, &mut work);
+    Answer { given, positions }
 }
 
 // One strip.
 pub fn compared(drawn: &Drawn) -> Outcome {
     let answer = answered(drawn);
     let found = search::first_placing(Model::Full, drawn);
-    Outcome::new(answer.agrees(drawn, found), answer.number == 0)
+    Outcome::new(answer.agrees(drawn, found), answer.given.is_ok())
 }

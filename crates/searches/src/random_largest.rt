@@ -40,32 +40,20 @@ fn widest(drawn: &Drawn) -> Found {
     found
 }
 
-// The call of the pass, and the width that it gives.
-fn answered(drawn: &Drawn) -> (Answer, u8) {
+// The call of the pass, which gives a width.
+fn answered(drawn: &Drawn) -> Answer<u8> {
     let lists = drawn.lists();
     let mut positions = [lists::UNWRITTEN; 8];
     let mut work = [0i16; full::WORK_NAMED];
-    let largest = largest::largest(
-        lists.places(),
-        lists.lengths(),
-        lists.weights(),
-        drawn.gap,
-        &mut positions,
-        &mut work,
-    );
-    (
-        Answer {
-            number: largest.number,
-            positions,
-        },
-        largest.width,
-    )
+    let given = largest::largest(lists.strip(), drawn.gap, &mut positions, &mut work);
+    Answer { given, positions }
 }
 
 // One strip.
 pub fn compared(drawn: &Drawn) -> Outcome {
-    let (answer, width) = answered(drawn);
+    let answer = answered(drawn);
     let widest = widest(drawn);
+    let width = answer.given.unwrap_or(0);
     let agrees = width == widest.width && answer.agrees(drawn, widest.placing);
-    Outcome::new(agrees, answer.number == 0)
+    Outcome::new(agrees, answer.given.is_ok())
 }

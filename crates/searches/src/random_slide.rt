@@ -5,19 +5,19 @@ use crate::random::Outcome;
 use crate::strip::Drawn;
 use crate::{labels, leftmost, search, slid};
 use agreed::lists;
-use geometry::refusal;
+use geometry::refusal::Refusal;
 
 // What the pass hands back.
 #[derive(Clone, Copy)]
 struct Answer {
-    number: u8,
+    given: Result<(), Refusal>,
     sides: [u8; 8],
     edges: [i16; 8],
 }
 
 impl Answer {
     fn fits(&self) -> bool {
-        self.number == 0
+        self.given.is_ok()
     }
 
     // Whether both lists are as they were behind so many marks.
@@ -47,7 +47,7 @@ impl Answer {
         if self.fits() {
             self.is_leftmost_placing(drawn) && self.is_kept_behind(drawn.marks().len())
         } else {
-            self.number == refusal::NO_PLACING && self.is_kept_behind(0)
+            self.given == Err(Refusal::NoPlacing) && self.is_kept_behind(0)
         }
     }
 
@@ -73,17 +73,9 @@ fn answered(drawn: &Drawn) -> Answer {
     let mut sides = [lists::UNWRITTEN; 8];
     let mut edges = [lists::UNWRITTEN_EDGE; 8];
     let mut work = [0u16; slide::WORK_NAMED];
-    let number = slide::slide(
-        lists.places(),
-        lists.lengths(),
-        lists.weights(),
-        drawn.gap,
-        &mut sides,
-        &mut edges,
-        &mut work,
-    );
+    let given = slide::slide(lists.strip(), drawn.gap, &mut sides, &mut edges, &mut work);
     Answer {
-        number,
+        given,
         sides,
         edges,
     }

@@ -1,6 +1,7 @@
 // Pseudo-random strips of up to 6 marks.
 ghost use Rattle.std.specs.Prelude.{◌≤◌, length};
 
+use geometry::strip::Strip;
 use std::fmt;
 
 // The most marks that a strip has.
@@ -90,15 +91,11 @@ impl Drawn {
 }
 
 impl Lists {
-    pub fn places(&self) -> &[i16] {
-        &self.places[..self.count]
-    }
-
-    pub fn lengths(&self) -> &[u8] {
-        &self.lengths[..self.count]
-    }
-
-    pub fn weights(&self) -> &[u16] {
-        &self.weights[..self.count]
+    pub fn strip(&self) -> Strip<'_> {
+        Strip {
+            places: &self.places[..self.count],
+            lengths: &self.lengths[..self.count],
+            weights: &self.weights[..self.count],
+        }
     }
 }
