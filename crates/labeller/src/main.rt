@@ -6,7 +6,7 @@ ghost use Rattle.labeller.specs.Printed.{Printed};
 
 use listing::TEXT_MOST;
 
-// The numbers of standard input and output.
+// Standard input and output by their numbers: std's handles for them assume more functions of C than `read` and `write`.
 const STDIN_FILENO: i32 = 0;
 
 const STDOUT_FILENO: i32 = 1;
@@ -18,8 +18,7 @@ const INPUT_MOST: usize = 30000;
 fn list(job: &[u8], output: &mut [u8; TEXT_MOST]) -> usize
     ensures { Printed job.now output.new result }
 {
-    let listed = listing::listing(job, output);
-    listed.length
+    listing::listing(job, output).unwrap_or(0)
 }
 
 fn main() {
