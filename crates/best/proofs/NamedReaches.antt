@@ -3,13 +3,11 @@
 -- two names after mark k is placed are the reaches that the walk holds.
 use mathlib.Core.Path.{◌≡◌, refl, sym, ◌∙◌, ap}
 use mathlib.Core.Bool.{true}
-use mathlib.Core.Logic.{⊎_elim}
 use mathlib.Core.List.{List}
 use Prim.Native.Nat.{ℕ, ◌+◌, ◌-◌, ◌/◌, ◌%◌, ◌≤◌, ◌<◌}
 use native.Mathlib.Omega.{arith}
 use lib.IntN.{ℤ, pos}
-use lib.ListN.{length, get_or, set}
-use lib.Seq.{get_or-set_same, get_or-set_other}
+use lib.ListN.{length, get_or}
 use mir.Syntax.{w16}
 use mir.Val.{to_z, of_z}
 use borrow.Author.Tests.{lt-ltb, le-ltb, eq-eqb, ne_eqb}
@@ -21,7 +19,6 @@ use Rattle.geometry.specs.Position.{above, below, Direction, leftward, rightward
 use Rattle.geometry.specs.Overlap.{right_end}
 use Rattle.geometry.specs.inner.At.{mark_at}
 use Rattle.geometry.specs.inner.Machine.{next_above, next_below}
-use Rattle.geometry.proofs.Split.{lt-or-ge}
 use Rattle.geometry.proofs.Accepted.{every-at}
 use Rattle.geometry.proofs.Dots.{fetched, range-mag}
 use Rattle.best.specs.inner.Names.{name_of, last_after, reach_named, reach_at}
@@ -79,13 +76,3 @@ module _ (g : ℕ) (s : Strip) (k : ℕ) where
 -- the list has the reaches of the first n names
 abbrev pub ReachesBelow : ℕ → List ℤ → List ℕ → List ℕ → ℕ → Type 0
 ReachesBelow g zs ls reaches n = (name : ℕ) → name < n → get_or reaches name 0 ≡ reach_named g zs ls name
-
--- storing the reach of the next name
-pub one-more-reach : (g : ℕ) (zs : List ℤ) (ls reaches : List ℕ) (n r : ℕ) → n < length reaches → ReachesBelow g zs ls reaches n
-    → r ≡ reach_named g zs ls n → ReachesBelow g zs ls (set reaches n r) (n + 1)
-one-more-reach g zs ls reaches n r inside known e =
-    λ name h.
-    ⊎_elim
-    (λ (l : name < n). get_or-set_other reaches n name r 0 (omega arith) ∙ known name l)
-    (λ (l : n ≤ name). let same : name ≡ n = omega arith in rw same (get_or-set_same reaches n r 0 inside ∙ e))
-    (lt-or-ge name n)

@@ -41,7 +41,3 @@ module _ (s : Strip) (reaches : List ℕ) (k : ℕ) where
       → Renewed s reaches k e old new
   renewed-more old work new b d e same done more =
       record { partly = λ g known. at_bound g s k new d e same (more.partly g known); rest-kept = more.rest-kept ∙ done.rest-kept }
-
-  -- the bound by another name
-  pub renewed-at : (old work : List ℕ) (b d : ℕ) → b ≡ d → Renewed s reaches k b old work → Renewed s reaches k d old work
-  renewed-at old work b d e done = rw e at done

@@ -2,19 +2,8 @@
 use Rattle.geometry.specs.Strip.{lists_of}
 use Rattle.geometry.proofs.Lent.{cleared-again}
 use Rattle.best.specs.Best.{work_named}
-use Rattle.best.proofs.RenewedInParts.{checked-again}
 use Rattle.best.proofs.WalkIsBest.{first_cell}
 use Rattle.best.proofs.fill_and_walk.Goals as goal
-
-pub place_labels-requires : goal.place_labels-requires
-place_labels-requires c = record {
-  checked = record {
-    checked = checked-again c.args.work.now c.fill.new.work c.requires.checked.checked c.fill.auto.work;
-    gap-narrow = c.requires.checked.gap-narrow;
-  };
-  filled = c.fill.ensures.filled _ c.requires.reaches_known;
-  positions_long = c.requires.positions_long;
-}
 
 pub returns : goal.returns
 returns c =

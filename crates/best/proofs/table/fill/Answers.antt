@@ -3,8 +3,6 @@ use mathlib.Core.Path.{◌≡◌, refl, ◌∙◌}
 use Prim.Native.Nat.{suc, ◌-◌}
 use native.Mathlib.Omega.{arith}
 use Rattle.geometry.specs.Strip.{lists_of}
-use Rattle.geometry.proofs.Lent.{drop-cleared}
-use Rattle.best.specs.Best.{work_named}
 use Rattle.best.proofs.TableRenewed.{none-renewed, all-renewed, cleared-table}
 use Rattle.best.proofs.RenewedInParts.{ready-again}
 use Rattle.best.proofs.table.fill.Goals as goal
@@ -36,11 +34,8 @@ loop-k-preserved c =
       done.rest-kept ∙ h.3,
     )
 
-pub returns : goal.returns
-returns c =
+pub returns-clause-filled : goal.returns-clause-filled
+returns-clause-filled c =
     let h = c.loop-k.invariant in
     let first : c.loop-k.k ≡ 0 = omega arith in
-    record {
-      filled = λ g known. rw first at (h.2 g known);
-      rest_kept = h.3 ∙ drop-cleared work_named 0 c.clear.new.work c.args.work.now c.clear.ensures;
-    }
+    λ g known. rw first at (h.2 g known)
