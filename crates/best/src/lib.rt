@@ -21,6 +21,7 @@ use geometry::entry::check_pass;
 use geometry::limits::MOST_SHORT;
 use geometry::refusal::Refusal;
 use geometry::strip::Strip;
+use geometry::work::clear;
 use name::NAMES;
 
 // How many numbers of the work area document 01 names.
@@ -61,7 +62,7 @@ fn fill_and_walk(
     table::fill(strip, reaches, work);
     walk::place_labels(strip, gap, positions, work);
     let sum = work[0];
-    table::clear(work);
+    clear(work, WORK_NAMED, 0);
     sum
 }
 

@@ -1,7 +1,6 @@
 // The table: for each pair of last labels, one above and one below, the most that the marks after them can still earn.
 ghost use Rattle.std.specs.Prelude.{◌≡◌, suc, ◌*◌, ◌<◌, ◌≤◌, length, get_or, set, drop};
 ghost use Rattle.geometry.specs.Strip.{lists_of};
-ghost use Rattle.geometry.specs.Pass.{cleared};
 ghost use Rattle.geometry.specs.inner.Positions.{position_of};
 ghost use Rattle.best.specs.Best.{work_named};
 ghost use Rattle.best.specs.inner.Worth.{earned_by};
@@ -17,6 +16,7 @@ use crate::row::{Row, cell};
 use geometry::dot::dot_of;
 use geometry::position::Position;
 use geometry::strip::Strip;
+use geometry::work::clear;
 
 // What mark k, counted from 0, earns at p.
 pub fn earned(weights: &[u16], k: usize, p: Position) -> u16
@@ -87,21 +87,13 @@ fn renew(strip: Strip, reaches: &[u16], work: &mut [u32], k: usize)
     }
 }
 
-// Puts zeros into the whole table, which is the named part of the work area.
-pub fn clear(work: &mut [u32])
-    requires { work_named ≤ length work.old }
-    ensures { work.new ≡ cleared work_named 0 work.old }
-{
-    work[..WORK_NAMED].fill(0);
-}
-
 // The table, from the last mark to the first.
 pub fn fill(strip: Strip, reaches: &[u16], work: &mut [u32])
     requires { Ready (lists_of strip) reaches.now work.old }
     ensures filled { AtEveryGap (lists_of strip.entry) reaches.now (λ g. Filled g (lists_of strip.entry) 0 work.new) }
     ensures rest_kept { drop work_named work.new ≡ drop work_named work.old }
 {
-    clear(work);
+    clear(work, WORK_NAMED, 0);
     for k in (0..strip.places.len()).rev() {
         renew(strip, reaches, work, k);
     }
