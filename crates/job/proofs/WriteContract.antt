@@ -10,12 +10,13 @@ use lib.IntN.{ℤ}
 use lib.ListN.{length}
 use lib.Seq.{sets}
 use Rattle.geometry.specs.Strip.{Strip, most_marks}
-use Rattle.geometry.specs.Refusal.{Verdict, accepted, refused, number_of, refusal_number, ListTooShort}
+use Rattle.geometry.specs.declared.refusal.Refusal.TheVariants.{ListTooShort}
+use Rattle.geometry.specs.Refusal.{Verdict, accepted, refused, number_of, refusal_number}
 use Rattle.geometry.specs.Entry.{entry}
 use Rattle.job.specs.Number.{bytes_of, word_of}
 use Rattle.job.specs.Outcome.{Outcome, given, checked}
 use Rattle.job.specs.Format.{word_width, header_length}
-use Rattle.job.specs.Encode.{first_place, header_bytes, records_of, encode, after_entry, job_for}
+use Rattle.job.specs.Encode.{first_place_lem, header_bytes, records_of, encode, after_entry, job_for}
 use Rattle.job.specs.Calls.{WriteContract}
 use Rattle.job.specs.inner.Put.{Writable}
 use Rattle.job.proofs.Outcomes.{IsRefused, never, given-same, refused-is, checked-given}
@@ -56,13 +57,13 @@ accepted-write s old new n good e h j =
     record { number_is = rw made refl; length-is = rw made e; job_is = rw made (j ∙ stores-written (encode s) old (omega arith)) }
 
 -- the header's two words, put one after the other, and then the records
-pub header-stores : (places : List ℤ) (old one two : List ℕ) (word : ℕ) → word ≡ word_of (first_place places)
+pub header-stores : (places : List ℤ) (old one two : List ℕ) (word : ℕ) → word ≡ word_of (first_place_lem places)
     → one ≡ sets old 0 (bytes_of word_width (length places)) → two ≡ sets one word_width (bytes_of word_width word)
     → two ≡ sets old 0 (header_bytes places)
 unfolding header_bytes
 header-stores places old one two word w p q =
     let count = bytes_of word_width (length places) in
-    q ∙ sym (stores-append count (bytes_of word_width (word_of (first_place places))) old 0 ∙ rw (bytes-length word_width (length places), p, w) refl)
+    q ∙ sym (stores-append count (bytes_of word_width (word_of (first_place_lem places))) old 0 ∙ rw (bytes-length word_width (length places), p, w) refl)
 
 pub job-stores : (s : Strip) (old one two : List ℕ) → one ≡ sets old 0 (header_bytes s.places) → two ≡ sets one header_length (records_of s)
     → two ≡ sets old 0 (encode s)

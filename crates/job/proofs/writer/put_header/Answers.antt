@@ -1,19 +1,14 @@
--- `job::writer::put_header` meets its contract: two words, one after the other.
-use mathlib.Core.Path.{◌∙◌, ap}
-use native.Mathlib.Omega.{arith}
-use lib.ListN.{length}
-use lib.Seq.{length-sets}
-use Rattle.job.specs.Number.{bytes_of, word_of}
-use Rattle.job.specs.Format.{word_width}
-use Rattle.job.proofs.WriteContract.{header-stores}
+use Rattle.std.proofs.Common.{rules, ◌≡◌, ◌+◌, ◌≤◌, ◌<◌, eqb, length, Bool, ℕ, ◌-◌, ◌*◌, ◌/◌, ◌%◌, true, false, nat_lt, List, [], ◌∷◌, ◌++◌, slice_index_or, slice_set, bit_and, bit_or, Fits, w8, w32, w64, Bor, MutBor, ℤ, pos, ◌+ℤ◌, ◌-ℤ◌, ◌*ℤ◌, ◌≤ℤ◌, ◌<ℤ◌, FitsSigned, to_z, of_z}
+use Rattle.std.proofs.lemmas.List.Edits.{sets}
+use Rattle.geometry.specs.Strip.{lists_of, most_marks}
+use Rattle.job.specs.Number.{bytes_of}
+use Rattle.job.specs.Format.{word_width, header_length, record_most}
+use Rattle.job.specs.Encode.{encode_bit, encode_field, encode_map, first_place_lem, header_bytes, records_of, encode}
+use Rattle.job.specs.Calls.{WriteContract, written_answer}
+use Rattle.job.specs.inner.Step.{row_of}
+use Rattle.job.specs.inner.Put.{PutAt, Writable, step_at_lem, bytes_of_record, RecordOf}
 use Rattle.job.proofs.writer.put_header.Goals as goal
 
--- the first word leaves room for the second
-pub put_word-requires-2 : goal.put_word-requires-2
-put_word-requires-2 c =
-    omega (arith, ap length c.put_word.ensures ∙ length-sets c.args.job.now 0 (bytes_of word_width (length c.args.places.now)))
-
+-- src/writer.rt:97:1
 pub returns : goal.returns
-returns c =
-    header-stores c.args.places.now c.args.job.now c.put_word.new.job c.put_word-2.new.job c.word_of_dot.result
-    (c.word_of_dot.ensures ∙ ap word_of c.first_dot.ensures) c.put_word.ensures c.put_word-2.ensures
+returns c = ?

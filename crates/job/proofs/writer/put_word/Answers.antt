@@ -1,16 +1,14 @@
--- `job::writer::put_word` meets its contract: two stores.
-use mathlib.Core.Path.{◌≡◌, refl}
-use Prim.Native.Nat.{◌/◌, ◌%◌}
-use native.Mathlib.Numerals.{add-one}
-use native.Mathlib.Omega.{arith}
-use lib.ListN.{length-set}
-use Rattle.job.proofs.Numbers.{bytes-two}
+use Rattle.std.proofs.Common.{rules, ◌≡◌, ◌+◌, ◌≤◌, ◌<◌, eqb, length, Bool, ℕ, ◌-◌, ◌*◌, ◌/◌, ◌%◌, true, false, nat_lt, List, [], ◌∷◌, ◌++◌, slice_index_or, slice_set, bit_and, bit_or, Fits, w8, w32, w64, Bor, MutBor}
+use Rattle.std.proofs.lemmas.List.Edits.{sets}
+use Rattle.geometry.specs.Strip.{lists_of, most_marks}
+use Rattle.job.specs.Number.{bytes_of}
+use Rattle.job.specs.Format.{word_width, header_length, record_most}
+use Rattle.job.specs.Encode.{encode_bit, encode_field, encode_map, first_place_lem, header_bytes, records_of, encode}
+use Rattle.job.specs.Calls.{WriteContract, written_answer}
+use Rattle.job.specs.inner.Step.{row_of}
+use Rattle.job.specs.inner.Put.{PutAt, Writable, step_at_lem, bytes_of_record, RecordOf}
 use Rattle.job.proofs.writer.put_word.Goals as goal
 
-pub bounds-job-at-2 : goal.bounds-job-at-2
-bounds-job-at-2 c = simp length-set (omega arith)
-
+-- src/writer.rt:89:1
 pub returns : goal.returns
-returns c =
-    let high : c.args.value / 256 % 256 ≡ c.args.value / 256 = omega arith in
-    rw (bytes-two c.args.value, high, add-one) refl
+returns c = ?
