@@ -3,15 +3,15 @@
 use mathlib.Core.Path.{◌≡◌, refl, sym, ◌∙◌, ap}
 use mathlib.Core.Bool.{true, false}
 use mathlib.Core.List.{List, [], ◌∷◌}
-use Prim.Native.Nat.{ℕ, ◌+◌, ◌*◌, ◌-◌, ◌≤◌, ◌<◌}
+use Prim.Native.Nat.{ℕ, ◌+◌, ◌*◌, ◌≤◌}
 use native.Mathlib.Omega.{arith}
 use borrow.Author.Tests.{le-leb}
 use mir.Syntax.{w16}
 use mir.Val.{to_z}
 use lib.IntN.{ℤ}
-use lib.ListN.{length, take, drop, get_or}
+use lib.ListN.{length, take, get_or}
 use Rattle.geometry.specs.declared.refusal.Refusal.TheVariants.{OutOfRange}
-use Rattle.job.specs.Number.{big_endian, signed, Bytes}
+use Rattle.job.specs.Number.{signed, Bytes}
 use Rattle.job.specs.Outcome.{given, refusal}
 use Rattle.job.specs.Format.{header_length}
 use Rattle.job.specs.Decode.{header_count, header_place, header_of, header_in_range_lem, decode_header}

@@ -6,12 +6,11 @@ use mathlib.Core.List.{List, [], ◌∷◌, ◌++◌, append_assoc}
 use Prim.Native.Nat.{ℕ, ◌+◌, ◌≤◌}
 use native.Mathlib.Omega.{arith}
 use borrow.Author.Tests.{eq-eqb, ne_eqb}
-use lib.Dec.{eqb}
 use lib.ListN.{length, length-append}
 use Rattle.geometry.proofs.Split.{by_eqb}
 use Rattle.job.specs.Number.{bytes_of}
-use Rattle.job.specs.Format.{absent_step, absent_length, absent_weight, Field, step_field, length_field, weight_field, first_record_most, record_most}
-use Rattle.job.specs.Encode.{encode_bit, encode_field, encode_map, encode_record}
+use Rattle.job.specs.Format.{absent_step, Field, step_field, length_field, weight_field, first_record_most, record_most}
+use Rattle.job.specs.Encode.{encode_field, encode_map, encode_record}
 use Rattle.job.proofs.Numbers.{bytes-length}
 
 -- a field is left out if it has its absent value
@@ -39,11 +38,6 @@ abbrev pub weight_bytes : ℕ → List ℕ
 weight_bytes w = encode_field weight_field w
 
 module _ (step l w : ℕ) where
-  -- the map byte, as the writer adds it up
-  pub map-sum : cond (eqb step absent_step) 0 1 + cond (eqb l absent_length) 0 2 + cond (eqb w absent_weight) 0 4 ≡ encode_map step l w
-  unfolding encode_map encode_bit
-  map-sum = omega arith
-
   -- the bytes of a record, by the fields as they are passed on
   record-bytes : encode_record step l w ≡ encode_map step l w ∷ (step_bytes step ++ (length_bytes l ++ weight_bytes w))
   unfolding encode_record encode_field

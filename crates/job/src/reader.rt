@@ -61,14 +61,8 @@ fn check_records(header: Header, records: &[u8]) -> Result<(), Refusal>
     check(rest.is_empty(), Refusal::BytesLeftOver)
 }
 
-// Fills the three lists from records that pass every check, so that each is read.
-fn fill(
-    header: Header,
-    records: &[u8],
-    places: &mut [i16],
-    lengths: &mut [u8],
-    weights: &mut [u16],
-)
+// Fills the three lists from records that pass every check: so each is read, and no call returns early.
+fn fill(header: Header, records: &[u8], places: &mut [i16], lengths: &mut [u8], weights: &mut [u16])
     requires { Fillable (marks_behind header records.now) header.count (strip places.old lengths.old weights.old) }
     ensures { Filled
         (marks_behind header records.now)

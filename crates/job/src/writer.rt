@@ -1,4 +1,5 @@
-// The job writer: the job's length is computed before a byte is written, so that a refusal changes none.
+// The job writer: the job's length is computed before a byte is written, so that a refusal changes none. It counts a position, where the
+// reader goes over the bytes that are left: a rest that is written to would be lent back by each call, with a clause on what becomes of it.
 ghost use Rattle.std.specs.Prelude.{◌≡◌, ◌+◌, ◌≤◌, ◌<◌, eqb, length, Bool};
 ghost use Rattle.std.proofs.lemmas.List.Edits.{sets};
 ghost use Rattle.geometry.specs.Strip.{lists_of, most_marks};
@@ -63,7 +64,11 @@ fn is_absent(field: Field, value: u16) -> bool
 fn field_length(field: Field, value: u16) -> usize
     ensures { (result ≡ length (encode_field (row_of field) value)) × (result ≤ (row_of field).width) }
 {
-    if is_absent(field, value) { 0 } else { field.width() }
+    if is_absent(field, value) {
+        0
+    } else {
+        field.width()
+    }
 }
 
 fn record_length(one: Record) -> usize
@@ -90,7 +95,9 @@ fn put_word(job: &mut [u8], at: usize, value: u16)
     requires { at + word_width ≤ length job.old }
     ensures { job.new ≡ sets job.old at (bytes_of word_width value) }
 {
-    job[at..at + WORD_WIDTH].copy_from_slice(&value.to_be_bytes());
+    let [high, low] = value.to_be_bytes();
+    job[at] = high;
+    job[at + 1] = low;
 }
 
 // Writes the header: the count of marks and the first place.
@@ -112,20 +119,25 @@ fn put_field(job: &mut [u8], at: usize, field: Field, value: u16) -> usize
     }
     if field.width() == WORD_WIDTH {
         put_word(job, at, value);
-    } else {
-        job[at] = (value % 256) as u8;
+        return at + WORD_WIDTH;
     }
-    at + field.width()
+    job[at] = (value % 256) as u8;
+    at + 1
 }
 
 // A field's bit in the map byte, which stands unless the field has its absent value.
 fn field_bit(field: Field, value: u16) -> u8
     ensures { (result ≡ encode_bit (row_of field) value) × (result ≤ 4) }
 {
-    if is_absent(field, value) { 0 } else { field.bit() }
+    if is_absent(field, value) {
+        0
+    } else {
+        field.bit()
+    }
 }
 
 // The map byte of a record.
+#[tactic(auto, unfolding(crate::specs::Encode::encode_map))]
 fn map_byte(one: Record) -> u8
     ensures { result ≡ encode_map one.step one.length one.weight }
 {

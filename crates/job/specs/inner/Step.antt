@@ -1,5 +1,5 @@
 -- How what the reader's steps hand over is seen by the definitions, and what filling the lists takes and leaves.
-use Rattle.std.specs.Prelude.{ℕ, ◌≤◌, ◌≡◌, true, List, length}
+use Rattle.std.specs.Prelude.{ℕ, ◌≤◌, ◌≡◌, true, List}
 use Rattle.std.specs.Borrow.{Bor}
 use Rattle.geometry.specs.Strip.{Strip}
 use Rattle.geometry.specs.Refusal.{accepted}

@@ -1,8 +1,7 @@
 -- `job::field::read_field` meets its contract: each return stands at the first check that is not passed.
-use mathlib.Core.Path.{◌≡◌, refl, sym, ◌∙◌, ap}
-use Prim.Native.Nat.{◌≤◌}
+use mathlib.Core.Path.{◌≡◌, sym, ◌∙◌, ap}
 use native.Mathlib.Omega.{arith}
-use lib.ListN.{length, take, drop}
+use lib.ListN.{take}
 use Rattle.job.specs.Number.{big_endian}
 use Rattle.job.specs.inner.Step.{row_of}
 use Rattle.job.proofs.FieldChecks.{field-ends, field-absent, field_out, field-good}

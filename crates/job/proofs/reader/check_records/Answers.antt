@@ -2,7 +2,6 @@
 use mathlib.Core.Path.{sym, ◌∙◌, ap}
 use Rattle.geometry.proofs.Dots.{back}
 use Rattle.geometry.proofs.Verdicts.{handed-on}
-use Rattle.geometry.specs.Refusal.{after_check, accepted}
 use Rattle.job.specs.Outcome.{verdict_of}
 use Rattle.job.proofs.RecordsLeft.{with-verdict, records-over, turn-refused, turn-next}
 use Rattle.job.proofs.reader.check_records.Goals as goal

@@ -2,7 +2,6 @@
 use mathlib.Core.Path.{◌≡◌, sym, ◌∙◌, ap}
 use Rattle.geometry.specs.Strip.{strip}
 use Rattle.geometry.specs.Refusal.{refused, accepted, number_of}
-use Rattle.geometry.specs.declared.refusal.Refusal.{Refusal}
 use Rattle.geometry.proofs.Dots.{back}
 use Rattle.geometry.proofs.Verdicts.{refusal-positive}
 use Rattle.job.specs.Outcome.{verdict_of}

@@ -1,8 +1,6 @@
 -- `job::reader::fill` meets its contract: what is stored and what is still to be stored are together the marks of all records.
 use mathlib.Core.Path.{◌≡◌}
-use mathlib.Core.List.{List}
 use Prim.Native.Nat.{ℕ}
-use lib.IntN.{ℤ}
 use Rattle.geometry.specs.Strip.{Strip, strip}
 use Rattle.geometry.specs.Refusal.{accepted}
 use Rattle.job.specs.Outcome.{Outcome, verdict_of}

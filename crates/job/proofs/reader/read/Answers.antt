@@ -27,7 +27,9 @@ returns-in_err-check_records c =
     let short : c.min-shortest.result ≡ shortest lent = c.min-shortest.ensures ∙ ap (min (length c.args.places.now)) c.min.ensures in
     let left = records-left lent c.args.job.now _ _ (sym c.in_ok-header.ensures.header) (rw (← short) c.in_ok-check.ensures) in
     refused-read c.args.job.now lent _ _ c.from_residual-in_err-check_records.ensures.1
-    (left ∙ rw (← c.in_ok-header.ensures.behind) (verdict-refused (marks_behind c.in_ok-header.header c.in_ok-header.records.now) _ c.in_err-check_records.ensures))
+    (left
+    ∙ rw (← c.in_ok-header.ensures.behind)
+    (verdict-refused (marks_behind c.in_ok-header.header c.in_ok-header.records.now) _ c.in_err-check_records.ensures))
 
 pub returns : goal.returns
 returns c =

@@ -1,5 +1,5 @@
 -- `job::reader::read_header` meets its contract: the two words are the header's own, and the check on them decides.
-use mathlib.Core.Path.{◌≡◌, refl, sym, ◌∙◌, ap}
+use mathlib.Core.Path.{◌≡◌, sym, ◌∙◌}
 use native.Mathlib.Omega.{arith}
 use mir.Syntax.{w16}
 use mir.Val.{to_z, of_z}

@@ -1,18 +1,16 @@
-use Rattle.std.proofs.Common.{rules, ◌≡◌, ◌+◌, ◌≤◌, ◌<◌, eqb, length, Bool, ℕ, ◌-◌, ◌*◌, ◌/◌, ◌%◌, true, false, nat_lt, List, [], ◌∷◌, ◌++◌, slice_index_or, slice_set, bit_and, bit_or, Fits, w8, w32, w64, Bor, MutBor}
-use Rattle.std.proofs.lemmas.List.Edits.{sets}
-use Rattle.geometry.specs.Strip.{lists_of, most_marks}
-use Rattle.job.specs.Number.{bytes_of}
-use Rattle.job.specs.Format.{word_width, header_length, record_most}
-use Rattle.job.specs.Encode.{encode_bit, encode_field, encode_map, first_place_lem, header_bytes, records_of, encode}
-use Rattle.job.specs.Calls.{WriteContract, written_answer}
+-- `job::writer::field_length` meets its contract.
+use mathlib.Core.Path.{refl, sym, ◌∙◌}
+use native.Mathlib.Omega.{arith}
+use Rattle.job.specs.Encode.{encode_field}
 use Rattle.job.specs.inner.Step.{row_of}
-use Rattle.job.specs.inner.Put.{PutAt, Writable, step_at_lem, bytes_of_record, RecordOf}
+use Rattle.job.proofs.Numbers.{bytes-length}
 use Rattle.job.proofs.writer.field_length.Goals as goal
 
--- src/writer.rt:63:1
 pub returns-then-is_absent : goal.returns-then-is_absent
-returns-then-is_absent c = ?
+unfolding encode_field
+returns-then-is_absent c = (rw (← c.is_absent.ensures, c.if-is_absent.true) refl, omega arith)
 
--- src/writer.rt:63:1
 pub returns-else-is_absent : goal.returns-else-is_absent
-returns-else-is_absent c = ?
+unfolding encode_field
+returns-else-is_absent c =
+    (rw (← c.is_absent.ensures, c.if-is_absent.false) (c.width.ensures ∙ sym (bytes-length (row_of c.args.field).width c.args.value)), omega arith)

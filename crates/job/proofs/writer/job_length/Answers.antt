@@ -1,26 +1,34 @@
-use Rattle.std.proofs.Common.{rules, ◌≡◌, ◌+◌, ◌≤◌, ◌<◌, eqb, length, Bool, ℕ, ◌-◌, ◌*◌, ◌/◌, ◌%◌, true, false, nat_lt, List, [], ◌∷◌, ◌++◌, slice_index_or, slice_set, bit_and, bit_or, Fits, w8, w32, w64, Bor, MutBor}
-use Rattle.std.proofs.lemmas.List.Edits.{sets}
+-- `job::writer::job_length` meets its contract: the length so far and that of the records to come are together the whole.
+use mathlib.Core.Path.{◌≡◌, refl}
+use native.Mathlib.Omega.{arith}
+use lib.ListN.{length}
 use Rattle.geometry.specs.Strip.{lists_of, most_marks}
-use Rattle.job.specs.Number.{bytes_of}
-use Rattle.job.specs.Format.{word_width, header_length, record_most}
-use Rattle.job.specs.Encode.{encode_bit, encode_field, encode_map, first_place_lem, header_bytes, records_of, encode}
-use Rattle.job.specs.Calls.{WriteContract, written_answer}
-use Rattle.job.specs.inner.Step.{row_of}
-use Rattle.job.specs.inner.Put.{PutAt, Writable, step_at_lem, bytes_of_record, RecordOf}
+use Rattle.geometry.proofs.Accepted.{entry-accepted}
+use Rattle.job.proofs.RecordsToWrite.{records_from, size-next, none_from, encode-size}
 use Rattle.job.proofs.writer.job_length.Goals as goal
 
--- src/writer.rt:82:5
 pub loop-i-init : goal.loop-i-init
-loop-i-init c = ?
+loop-i-init c = record { small = omega arith; together = refl }
 
--- src/writer.rt:83:9
 pub overflow_add-total : goal.overflow_add-total
-overflow_add-total c = ?
+overflow_add-total c =
+    let marks = lists_of c.args.strip in
+    omega (arith, (entry-accepted most_marks marks c.requires).few)
 
--- src/writer.rt:82:5
 pub loop-i-preserved : goal.loop-i-preserved
-loop-i-preserved c = ?
+loop-i-preserved c =
+    let marks = lists_of c.args.strip in
+    let l = c.loop-i in
+    let n = c.record_length-total in
+    record {
+      small = omega arith;
+      together = size-next marks c.requires l.i (omega arith) c.record_at.result c.record_at.ensures l.total
+          n.result l.invariant.together n.ensures.0;
+    }
 
--- src/writer.rt:77:1
 pub returns : goal.returns
-returns c = ?
+returns c =
+    let marks = lists_of c.args.strip in
+    let l = c.loop-i in
+    let none : length (records_from marks l.i) ≡ 0 = rw (none_from marks l.i (omega arith)) refl in
+    omega (arith, encode-size marks, l.invariant.together)

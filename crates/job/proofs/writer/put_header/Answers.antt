@@ -1,14 +1,13 @@
-use Rattle.std.proofs.Common.{rules, ◌≡◌, ◌+◌, ◌≤◌, ◌<◌, eqb, length, Bool, ℕ, ◌-◌, ◌*◌, ◌/◌, ◌%◌, true, false, nat_lt, List, [], ◌∷◌, ◌++◌, slice_index_or, slice_set, bit_and, bit_or, Fits, w8, w32, w64, Bor, MutBor, ℤ, pos, ◌+ℤ◌, ◌-ℤ◌, ◌*ℤ◌, ◌≤ℤ◌, ◌<ℤ◌, FitsSigned, to_z, of_z}
-use Rattle.std.proofs.lemmas.List.Edits.{sets}
-use Rattle.geometry.specs.Strip.{lists_of, most_marks}
-use Rattle.job.specs.Number.{bytes_of}
-use Rattle.job.specs.Format.{word_width, header_length, record_most}
-use Rattle.job.specs.Encode.{encode_bit, encode_field, encode_map, first_place_lem, header_bytes, records_of, encode}
-use Rattle.job.specs.Calls.{WriteContract, written_answer}
-use Rattle.job.specs.inner.Step.{row_of}
-use Rattle.job.specs.inner.Put.{PutAt, Writable, step_at_lem, bytes_of_record, RecordOf}
+-- `job::writer::put_header` meets its contract: two words, one after the other.
+use mathlib.Core.Path.{◌∙◌, ap}
+use Rattle.geometry.proofs.Dots.{fetched}
+use Rattle.job.specs.Number.{word_of}
+use Rattle.job.proofs.SignedWords.{word-is}
+use Rattle.job.proofs.WriteContract.{header-stores}
 use Rattle.job.proofs.writer.put_header.Goals as goal
 
--- src/writer.rt:97:1
 pub returns : goal.returns
-returns c = ?
+returns c =
+    let z = c.first_place in
+    header-stores c.args.places.now c.args.job.now c.put_word.new.job c.put_word-2.new.job c.cast_unsigned.result
+    (c.cast_unsigned.ensures ∙ rw (fetched z.result z.type_inv) (word-is z.result ∙ ap word_of z.ensures)) c.put_word.ensures c.put_word-2.ensures

@@ -1,18 +1,11 @@
-use Rattle.std.proofs.Common.{rules, ◌≡◌, ◌+◌, ◌≤◌, ◌<◌, eqb, length, Bool, ℕ, ◌-◌, ◌*◌, ◌/◌, ◌%◌, true, false, nat_lt, List, [], ◌∷◌, ◌++◌, slice_index_or, slice_set, bit_and, bit_or, Fits, w8, w32, w64, Bor, MutBor}
-use Rattle.std.proofs.lemmas.List.Edits.{sets}
-use Rattle.geometry.specs.Strip.{lists_of, most_marks}
-use Rattle.job.specs.Number.{bytes_of}
-use Rattle.job.specs.Format.{word_width, header_length, record_most}
-use Rattle.job.specs.Encode.{encode_bit, encode_field, encode_map, first_place_lem, header_bytes, records_of, encode}
-use Rattle.job.specs.Calls.{WriteContract, written_answer}
-use Rattle.job.specs.inner.Step.{row_of}
-use Rattle.job.specs.inner.Put.{PutAt, Writable, step_at_lem, bytes_of_record, RecordOf}
+-- `job::writer::record_at` meets its contract: the three lists are equally long.
+use native.Mathlib.Omega.{arith}
+use Rattle.geometry.specs.Strip.{most_marks}
+use Rattle.geometry.proofs.Accepted.{entry-accepted}
 use Rattle.job.proofs.writer.record_at.Goals as goal
 
--- src/writer.rt:51:17
 pub bounds-strip-i : goal.bounds-strip-i
-bounds-strip-i c = ?
+bounds-strip-i c = omega (arith, (entry-accepted most_marks _ c.requires.0).same-lengths)
 
--- src/writer.rt:52:17
 pub bounds-strip-i-2 : goal.bounds-strip-i-2
-bounds-strip-i-2 c = ?
+bounds-strip-i-2 c = omega (arith, (entry-accepted most_marks _ c.requires.0).same-weights)

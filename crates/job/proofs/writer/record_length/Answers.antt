@@ -1,14 +1,9 @@
-use Rattle.std.proofs.Common.{rules, ◌≡◌, ◌+◌, ◌≤◌, ◌<◌, eqb, length, Bool, ℕ, ◌-◌, ◌*◌, ◌/◌, ◌%◌, true, false, nat_lt, List, [], ◌∷◌, ◌++◌, slice_index_or, slice_set, bit_and, bit_or, Fits, w8, w32, w64, Bor, MutBor}
-use Rattle.std.proofs.lemmas.List.Edits.{sets}
-use Rattle.geometry.specs.Strip.{lists_of, most_marks}
-use Rattle.job.specs.Number.{bytes_of}
-use Rattle.job.specs.Format.{word_width, header_length, record_most}
-use Rattle.job.specs.Encode.{encode_bit, encode_field, encode_map, first_place_lem, header_bytes, records_of, encode}
-use Rattle.job.specs.Calls.{WriteContract, written_answer}
-use Rattle.job.specs.inner.Step.{row_of}
-use Rattle.job.specs.inner.Put.{PutAt, Writable, step_at_lem, bytes_of_record, RecordOf}
+-- `job::writer::record_length` meets its contract: the map byte and the three fields.
+use native.Mathlib.Omega.{arith}
+use Rattle.job.proofs.RecordBytes.{record-size}
 use Rattle.job.proofs.writer.record_length.Goals as goal
 
--- src/writer.rt:69:1
 pub returns : goal.returns
-returns c = ?
+returns c =
+    let one = c.args.one in
+    (omega (arith, record-size one.step one.length one.weight), omega arith)

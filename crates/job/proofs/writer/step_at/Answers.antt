@@ -1,14 +1,29 @@
-use Rattle.std.proofs.Common.{rules, ◌≡◌, ◌+◌, ◌≤◌, ◌<◌, eqb, length, Bool, ℕ, ◌-◌, ◌*◌, ◌/◌, ◌%◌, true, false, nat_lt, List, [], ◌∷◌, ◌++◌, slice_index_or, slice_set, bit_and, bit_or, Fits, w8, w32, w64, Bor, MutBor, ℤ, pos, ◌+ℤ◌, ◌-ℤ◌, ◌*ℤ◌, ◌≤ℤ◌, ◌<ℤ◌, FitsSigned, to_z, of_z}
-use Rattle.std.proofs.lemmas.List.Edits.{sets}
-use Rattle.geometry.specs.Strip.{lists_of, most_marks}
-use Rattle.job.specs.Number.{bytes_of}
-use Rattle.job.specs.Format.{word_width, header_length, record_most}
-use Rattle.job.specs.Encode.{encode_bit, encode_field, encode_map, first_place_lem, header_bytes, records_of, encode}
-use Rattle.job.specs.Calls.{WriteContract, written_answer}
-use Rattle.job.specs.inner.Step.{row_of}
-use Rattle.job.specs.inner.Put.{PutAt, Writable, step_at_lem, bytes_of_record, RecordOf}
+-- `job::writer::step_at` meets its contract: the step is the difference of the dots, and the mark before has the smaller one.
+use mathlib.Core.Path.{◌≡◌, ◌∙◌, ap}
+use mathlib.Core.List.{List}
+use Prim.Native.Nat.{ℕ, suc, ◌-◌, ◌<◌}
+use native.Mathlib.Omega.{arith}
+use lib.IntN.{ℤ, pos}
+use lib.ListN.{length, get_or}
+use Rattle.geometry.specs.Dot.{dot}
+use Rattle.geometry.specs.Strip.{strip, most_marks}
+use Rattle.geometry.proofs.Dots.{fetched}
+use Rattle.geometry.proofs.Accepted.{Accepted, entry-accepted}
+use Rattle.job.specs.inner.Put.{Writable}
+use Rattle.job.proofs.RisingPlaces.{rising-at}
 use Rattle.job.proofs.writer.step_at.Goals as goal
 
--- src/writer.rt:42:5
+rises : (ps : List ℤ) (ls ws : List ℕ) (i : ℕ) → Writable (strip ps ls ws) → 0 < i → i < length ps
+    → dot (get_or ps (i - 1) (pos 0)) < dot (get_or ps i (pos 0))
+rises ps ls ws i w h k =
+    let good : Accepted most_marks (strip ps ls ws) = entry-accepted most_marks _ w in
+    let next : suc (i - 1) ≡ i = omega arith in
+    rw next at (rising-at ps (i - 1) good.places-good good.places-rise (omega arith))
+
 pub overflow_sub-result : goal.overflow_sub-result
-overflow_sub-result c = ?
+overflow_sub-result c =
+    let a = c.args in
+    let ps = a.strip.places.now in
+    let here = c.dot_of.ensures ∙ ap dot (fetched (get_or ps a.i (pos 0)) (omega arith)) in
+    let before = c.dot_of-2.ensures ∙ ap dot (fetched (get_or ps (a.i - 1) (pos 0)) (omega arith)) in
+    omega (arith, here, before, rises ps a.strip.lengths.now a.strip.weights.now a.i c.requires.0 (omega arith) c.requires.1)
