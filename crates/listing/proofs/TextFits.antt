@@ -26,7 +26,10 @@ use Rattle.job.proofs.RoundTrips.{read-accepted}
 use Rattle.listing.specs.Text.{listing_gap, decimal, marks_word, refused_word, marks_line, full_line, slide_line, best_line, out_line, too_long_lines, short_lines, strip_lines, listing_of}
 use Rattle.listing.proofs.Lengths.{spaced-most, line-most, full-most, slide-most, best-most}
 use Rattle.listing.specs.Listing.{said_by, TextOf, text_most, ListingContract}
-use Rattle.listing.specs.Listing.{Listed}
+use Rattle.std.specs.Prelude.{Result, Ok, Err}
+use Rattle.std.specs.Result.{result_unwrap_or}
+use Rattle.geometry.specs.declared.refusal.Refusal.{Refusal}
+use Rattle.listing.specs.Listing.{Listed, listed_answer}
 
 -- two pieces together, and a bound that is wider than need be
 joined-most : (xs ys : List ℕ) {m n : ℕ} → length xs ≤ m → length ys ≤ n → length (xs ++ ys) ≤ m + n
@@ -113,3 +116,8 @@ text-used {job} {entry} call bytes room =
     let done = never-too-small call bytes room in
     let some = text-some job call.text bytes call.text_of in
     (used-is call.text entry done.2 done.1, used-within call.text entry done.2 done.1, omega (arith, some, done.1))
+
+-- what a caller has as the length where it takes 0 at a refusal
+pub length-given : (answer : Result ℕ Refusal) → result_unwrap_or answer 0 ≡ (listed_answer answer).length
+length-given (Ok length) = refl
+length-given (Err r) = refl

@@ -23,10 +23,10 @@ pub fn fits<'a>(strip: Strip, positions: &'a mut [u8]) -> Option<&'a [u8]>
     ensures { FullFound (lists_of strip.entry) result }
 {
     let mut work = [0i16; full::WORK_NAMED];
-    if full::full(strip, GAP, positions, &mut work).is_err() {
-        return None;
+    match full::full(strip, GAP, positions, &mut work) {
+        Ok(()) => Some(&positions[..strip.places.len()]),
+        Err(_) => None,
     }
-    Some(&positions[..strip.places.len()])
 }
 
 // Whether it fits with sliding labels.

@@ -3,6 +3,7 @@ use mathlib.Core.Path.{◌≡◌, refl}
 use lib.IntN.{pos}
 use lib.ListN.{replicate}
 use Rattle.geometry.specs.Strip.{Strip, strip, most_marks}
+use Rattle.geometry.proofs.Verdicts.{refusal-positive}
 use Rattle.job.specs.Calls.{shortest}
 use Rattle.job.proofs.ReadStrip.{read-strip}
 use Rattle.listing.proofs.JobText.{refused-listing, good-marks, accepted-listing}
@@ -15,23 +16,23 @@ lent = strip (replicate most_marks (pos 0)) (replicate most_marks 0) (replicate 
 roomy : shortest lent ≡ most_marks
 roomy = refl
 
-pub returns-then-found-ne0 : goal.returns-then-found-ne0
-returns-then-found-ne0 c =
-    let n = c.read-found.new in
+pub returns-in-Err : goal.returns-in-Err
+returns-in-Err c =
+    let n = c.read.new in
     let text = rw c.requires at c.put_refused.ensures in
-    refused-listing _ lent roomy (strip n.places n.lengths n.weights) _ _ c.read-found.ensures c.if-found-ne0.true text
+    refused-listing _ lent roomy (strip n.places n.lengths n.weights) _ _ c.in-Err.ensures (refusal-positive c.in-Err.refusal) text
 
 pub put_strip-requires-clause-good : goal.put_strip-requires-clause-good
 put_strip-requires-clause-good c =
-    let n = c.read-found.new in
+    let n = c.read.new in
     let left = strip n.places n.lengths n.weights in
-    let read = read-strip _ lent left _ (λ i. (c.type_inv.job i).fits) c.read-found.ensures c.if-found-ne0.false in
+    let read = read-strip _ lent left _ (λ i. (c.type_inv.job i).fits) c.in-Ok.ensures refl in
     good-marks _ lent roomy left _ read
 
 pub returns : goal.returns
 returns c =
-    let n = c.read-found.new in
+    let n = c.read.new in
     let left = strip n.places n.lengths n.weights in
-    let read = read-strip _ lent left _ (λ i. (c.type_inv.job i).fits) c.read-found.ensures c.if-found-ne0.false in
+    let read = read-strip _ lent left _ (λ i. (c.type_inv.job i).fits) c.in-Ok.ensures refl in
     let counted = rw c.requires at c.put_count.ensures in
     accepted-listing _ lent roomy left _ read _ _ counted c.put_strip.ensures

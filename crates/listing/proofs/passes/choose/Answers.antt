@@ -1,15 +1,19 @@
 -- `listing::passes::choose` meets its contract: by what the best pass says.
-use mathlib.Core.Path.{◌≡◌}
+use mathlib.Core.Path.{◌≡◌, refl, ◌∙◌, ap}
 use mathlib.Core.List.{List}
 use native.Mathlib.Omega.{arith}
 use native.Mathlib.Nat.{le_refl}
 use Prim.Native.Nat.{ℕ, ◌≤◌}
 use lib.ListN.{length, replicate, length-replicate}
 use Rattle.geometry.specs.Strip.{Strip, lists_of, most_short}
-use Rattle.geometry.specs.Refusal.{accepted}
+use Rattle.geometry.specs.Refusal.{accepted, number_of}
 use Rattle.geometry.specs.Entry.{entry}
+use Rattle.geometry.specs.declared.refusal.Refusal.{Refusal}
+use Rattle.geometry.proofs.Verdicts.{refusal-positive}
 use Rattle.geometry.proofs.Accepted.{entry-accepted, accept-pass}
-use Rattle.best.specs.Best.{BestLent, best_lent, best_checks, work_named}
+use Rattle.std.specs.Prelude.{Result, Ok, Err, IsOk}
+use Rattle.best.specs.declared.choice.Choice.{Choice}
+use Rattle.best.specs.Best.{BestLent, best_lent, best_answer, best_checks, work_named}
 use Rattle.listing.specs.Text.{listing_gap}
 use Rattle.listing.proofs.PassAnswers.{best-found}
 use Rattle.listing.proofs.passes.choose.Goals as goal
@@ -27,8 +31,18 @@ passed s listed entered room =
     (omega (arith, good.few, room, length-replicate {A = ℕ} most_short 0))
     (rw (length-replicate {A = ℕ} work_named 0) (le_refl work_named))
 
+-- so it does not refuse
+chosen : (answer : Result Choice Refusal) → (best_answer answer).number ≡ 0 → IsOk answer
+chosen (Ok choice) zero = refl
+chosen (Err r) zero = absurd (refusal-positive r zero)
+
+pub unwrap-requires : goal.unwrap-requires
+unwrap-requires c =
+    let all = passed (lists_of c.args.strip) c.args.left_out.now c.requires.good c.requires.room in
+    chosen c.best.result (c.best.ensures.number_is ∙ ap number_of all)
+
 pub returns : goal.returns
 returns c =
     let s = lists_of c.args.strip in
     let listed = c.args.left_out.now in
-    best-found s (lent_to listed) _ _ c.best.ensures (passed s listed c.requires.good c.requires.room)
+    rw c.unwrap.ensures at (best-found s (lent_to listed) _ _ c.best.ensures (passed s listed c.requires.good c.requires.room))

@@ -9,6 +9,7 @@ use lib.ListN.{length, replicate, length-replicate}
 use Rattle.geometry.specs.Strip.{Strip, lists_of, most_marks}
 use Rattle.geometry.specs.Refusal.{accepted}
 use Rattle.geometry.specs.Entry.{entry}
+use Rattle.geometry.proofs.Verdicts.{refusal-positive}
 use Rattle.geometry.proofs.Accepted.{entry-accepted, accept-pass}
 use Rattle.full.specs.Full.{FullLent, full_lent, full_checks, work_named}
 use Rattle.listing.specs.Text.{listing_gap}
@@ -28,23 +29,23 @@ passed s positions entered room =
     (rw (length-replicate work_named (pos 0)) (le_refl work_named))
 
 -- what the contract of the pass gives
-pub returns-then-full-ne0 : goal.returns-then-full-ne0
-returns-then-full-ne0 c =
+pub returns-in-Err : goal.returns-in-Err
+returns-in-Err c =
     let s = lists_of c.args.strip in
     let positions = c.args.positions.now in
-    full-none s (lent_to positions) _ _ c.full.ensures (passed s positions c.requires.good c.requires.room)
-    (entry-accepted most_marks s c.requires.good) c.if-full-ne0.true
+    full-none s (lent_to positions) _ _ c.in-Err.ensures (passed s positions c.requires.good c.requires.room)
+    (entry-accepted most_marks s c.requires.good) (refusal-positive c.in-Err.field-0)
 
 pub slice_bounds-result-end : goal.slice_bounds-result-end
 slice_bounds-result-end c =
     let s = lists_of c.args.strip in
     let positions = c.args.positions.now in
-    full-within s (lent_to positions) _ _ c.full.ensures (passed s positions c.requires.good c.requires.room)
-    (entry-accepted most_marks s c.requires.good) c.if-full-ne0.false
+    full-within s (lent_to positions) _ _ c.in-Ok.ensures (passed s positions c.requires.good c.requires.room)
+    (entry-accepted most_marks s c.requires.good) refl
 
-pub returns : goal.returns
-returns c =
+pub returns-in-Ok : goal.returns-in-Ok
+returns-in-Ok c =
     let s = lists_of c.args.strip in
     let positions = c.args.positions.now in
-    full-found s (lent_to positions) _ _ c.full.ensures (passed s positions c.requires.good c.requires.room)
-    (entry-accepted most_marks s c.requires.good) c.if-full-ne0.false _ refl
+    full-found s (lent_to positions) _ _ c.in-Ok.ensures (passed s positions c.requires.good c.requires.room)
+    (entry-accepted most_marks s c.requires.good) refl _ refl

@@ -1,5 +1,5 @@
 -- `listing::passes::slides` meets its contract: by what the slide pass says.
-use mathlib.Core.Path.{◌≡◌}
+use mathlib.Core.Path.{◌≡◌, ◌∙◌}
 use native.Mathlib.Omega.{arith}
 use native.Mathlib.Nat.{le_refl}
 use Prim.Native.Nat.{ℕ}
@@ -8,6 +8,7 @@ use lib.ListN.{replicate, length-replicate}
 use Rattle.geometry.specs.Strip.{Strip, lists_of, most_short}
 use Rattle.geometry.specs.Refusal.{accepted}
 use Rattle.geometry.specs.Entry.{entry}
+use Rattle.geometry.proofs.Verdicts.{ok-is-zero}
 use Rattle.geometry.proofs.Accepted.{entry-accepted, accept-pass}
 use Rattle.slide.specs.Slide.{SlideLent, slide_lent, slide_checks, work_named}
 use Rattle.listing.specs.Text.{listing_gap}
@@ -28,4 +29,4 @@ passed s entered =
 pub returns : goal.returns
 returns c =
     let s = lists_of c.args.strip in
-    slide-told s lent _ _ c.slide.ensures (passed s c.requires)
+    rw (c.is_ok.ensures.value ∙ ok-is-zero c.slide.result) (slide-told s lent _ _ c.slide.ensures (passed s c.requires))
