@@ -63,7 +63,9 @@ fn read_label(place: i16, map: u8, bytes: &[u8]) -> Result<(Mark, &[u8]), Refusa
     ))
 }
 
-// The record at the front of some bytes, and the bytes after it; `before` is as in `read_place`.
+// The record at the front of some bytes, and the bytes after it; `before` is as in `read_place`. Inlined, so that both loops over the records
+// keep what is left in registers.
+#[inline]
 #[tactic(auto, unfolding(crate::specs::Decode::decode_record))]
 pub fn read_record(first: bool, before: i16, bytes: &[u8]) -> Result<(Mark, &[u8]), Refusal>
     ensures record_is { outcome_of mark_front result ≡ decode_record first before bytes.now }
