@@ -10,7 +10,6 @@ use native.Mathlib.Omega.{arith}
 use lib.IntN.{pos}
 use lib.ListN.{length, replicate}
 use borrow.Author.Tests.{leb-true, le-leb}
-use Rattle.std.specs.List.{list_all}
 use Rattle.geometry.specs.Mark.{rising}
 use Rattle.geometry.specs.Strip.{Strip, strip, most_marks, most_short}
 use Rattle.geometry.specs.Refusal.{Verdict, refused}

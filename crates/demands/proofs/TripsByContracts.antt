@@ -2,7 +2,7 @@
 -- of the lent lists; the writer takes it and gives the same bytes, if they fit into the output. A job that was written with number 0
 -- stands in the used part of the output; the reader finds the same strip in it, if the lent lists are long enough. Where the room is too
 -- small the second call refuses 9.
-use mathlib.Core.Path.{◌≡◌}
+use mathlib.Core.Path.{◌≡◌, refl}
 use mathlib.Core.List.{List}
 use Prim.Native.Nat.{ℕ, ◌≤◌, ◌<◌}
 use native.Mathlib.Omega.{arith}
@@ -17,6 +17,8 @@ use Rattle.job.specs.Outcome.{given, refusal}
 use Rattle.job.specs.Decode.{decode}
 use Rattle.job.specs.Encode.{job_for}
 use Rattle.job.specs.Calls.{Read, Written, shortest, read_into, ReadContract, WriteContract}
+use borrow.Author.Tests.{lt-leb}
+use Rattle.job.specs.Encode.{encode}
 use Rattle.job.proofs.WriteContract.{job-too-long}
 use Rattle.job.proofs.RoundTrips.{same-job, written-then-read, read-then-written, read-too-short}
 use Rattle.job.proofs.ReadStrip.{ReadStrip, read-strip, WrittenJob, written-job}
@@ -72,8 +74,9 @@ module _ (job : List ℕ) (bytes : Bytes job) (lent left : Strip) (read : Read) 
   pub too-long-back : length output < length job → NotWritten (refusal_number ListTooShort) output copy made
   too-long-back short =
       let same = same-job (shortest lent) job said.found said.says bytes in
-      let q = job-too-long (length output) said.found said.takes (rw same short) in
-      rw q.number (not_written said.found output copy made written_back q.which q.is)
+      let over = lt-leb (length (encode said.found)) (length output) (rw same short) in
+      not_written said.found output copy made written_back ListTooShort
+      (job-too-long (length output) said.found ListTooShort said.takes (rw over refl))
 
 -- a strip that is written and read back; `wrote` is the job that it has
 module _ (s : Strip) (output job : List ℕ) (made : Written) (call : WriteContract s output job made)

@@ -40,7 +40,11 @@ pub fn best_against_full(
     };
     match placed {
         Ok(()) => Some(Comparison { fits: true, sum }),
-        Err(Refusal::NoPlacing) => Some(Comparison { fits: false, sum }),
-        Err(_) => None,
+        Err(refusal) => {
+            if refusal != Refusal::NoPlacing {
+                return None;
+            }
+            Some(Comparison { fits: false, sum })
+        }
     }
 }
