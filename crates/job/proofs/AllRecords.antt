@@ -11,7 +11,7 @@ use lib.Dec.{leb}
 use lib.IntN.{ℤ}
 use lib.ListN.{length}
 use Rattle.geometry.specs.Strip.{Strip}
-use Rattle.geometry.specs.Refusal.{BytesLeftOver}
+use Rattle.geometry.specs.declared.refusal.Refusal.TheVariants.{BytesLeftOver}
 use Rattle.job.specs.Outcome.{Outcome, given, refusal}
 use Rattle.job.specs.Decode.{Front, SignedMark, decode_record, no_marks, cons_mark, with_mark, decode_records}
 use Rattle.job.proofs.Outcomes.{never, given-same, checked-given, then-given}

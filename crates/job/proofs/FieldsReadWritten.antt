@@ -13,7 +13,7 @@ use lib.Signed.{le_z}
 use lib.ListN.{length, take, drop}
 use lib.Seq.{get_or-drop}
 use Rattle.geometry.specs.Mark.{most_place}
-use Rattle.geometry.specs.Refusal.{BytesEnd, AbsentValue, OutOfRange}
+use Rattle.geometry.specs.declared.refusal.Refusal.TheVariants.{BytesEnd, AbsentValue, OutOfRange}
 use Rattle.job.specs.Number.{big_endian, bytes_of, Bytes}
 use Rattle.job.specs.Outcome.{Outcome, given, checked, and_then}
 use Rattle.job.specs.Format.{byte_width, word_width, Field, step_field, length_field, weight_field, bit_stands}

@@ -2,24 +2,23 @@
 -- The record at hand has the first mark of those that are left, so storing it keeps what was stored and what is left together the whole;
 -- when no record is left no mark is, and the lists hold the whole.
 use mathlib.Core.Path.{◌≡◌, refl, sym, ◌∙◌, ap}
-use mathlib.Core.Bool.{Bool, true}
+use mathlib.Core.Bool.{Bool}
 use mathlib.Core.List.{List}
-use Prim.Native.Nat.{ℕ, ◌+◌, ◌-◌, ◌≤◌}
+use Prim.Native.Nat.{ℕ, ◌-◌, ◌≤◌}
 use native.Mathlib.Omega.{arith}
 use lib.Dec.{leb}
 use lib.IntN.{ℤ}
 use lib.ListN.{length}
 use Rattle.geometry.specs.Strip.{Strip}
-use Rattle.geometry.specs.Refusal.{accepted, BytesLeftOver}
-use Rattle.geometry.specs.inner.Place.{place_of_lem}
+use Rattle.geometry.specs.declared.refusal.Refusal.TheVariants.{BytesLeftOver}
+use Rattle.geometry.specs.Refusal.{accepted}
 use Rattle.geometry.proofs.Split.{by_bool}
 use Rattle.job.specs.Outcome.{Outcome, given, refusal, checked, verdict_of}
-use Rattle.job.specs.Decode.{SignedMark, mark_of, no_marks, cons_mark, with_mark, decode_records}
+use Rattle.job.specs.Decode.{SignedMark, no_marks, cons_mark, with_mark, decode_records}
 use Rattle.job.specs.Calls.{shortest}
-use Rattle.job.specs.inner.Step.{marks_behind, Filled}
-use Rattle.job.specs.declared.record.RecordRead.{RecordRead}
+use Rattle.job.specs.inner.Step.{Filled}
 use Rattle.job.proofs.Outcomes.{accepted-given}
-use Rattle.job.proofs.RecordsLeft.{left_at, Next, next-verdict}
+use Rattle.job.proofs.RecordsLeft.{left_at, with-verdict}
 use Rattle.job.proofs.AllRecords.{Count, count-marks}
 use Rattle.job.proofs.StoredMarks.{StoringMarks, storing-ends}
 
@@ -33,14 +32,13 @@ with-marks : (m : SignedMark) (o : Outcome Strip) → verdict_of o ≡ accepted 
 with-marks m (given s) e = refl
 with-marks m (refusal r) e = let z : ◌≡◌ {A = ℕ} 0 1 = cc in absurd (omega arith)
 
-module _ (job : List ℕ) (count at d i : ℕ) (r : RecordRead) (acc : verdict_of (left_at job count at d i) ≡ accepted) (n : Next job count at d i r) where
+module _ (m : SignedMark) (left others : Outcome Strip) (next : left ≡ with_mark m others) (acc : verdict_of left ≡ accepted) where
   -- after a good record the rest is accepted, and its mark is the first of those left
-  pub next-accepted : verdict_of (left_at job count r.next r.dot (i + 1)) ≡ accepted
-  next-accepted = sym (next-verdict job count at d i r n) ∙ acc
+  pub next-accepted : verdict_of others ≡ accepted
+  next-accepted = sym (with-verdict m others) ∙ sym (ap verdict_of next) ∙ acc
 
-  pub next-mark : marks_in (left_at job count at d i)
-      ≡ cons_mark (mark_of (place_of_lem r.dot) r.length r.weight) (marks_in (left_at job count r.next r.dot (i + 1)))
-  next-mark = ap marks_in n.left_is ∙ with-marks _ (left_at job count r.next r.dot (i + 1)) next-accepted
+  pub next-mark : marks_in left ≡ cons_mark m (marks_in others)
+  next-mark = ap marks_in next ∙ with-marks m others next-accepted
 
 -- with no record left no mark is left
 no-marks : (first : Bool) (z : ℤ) (bs : List ℕ) → marks_in (decode_records 0 first z bs) ≡ no_marks
@@ -48,16 +46,16 @@ unfolding decode_records
 no-marks first z bs =
     by_bool (leb (length bs) 0) (λ t. marks_in (checked t BytesLeftOver (given no_marks)) ≡ no_marks) (λ _. refl) (λ _. refl)
 
-pub none_left : (job : List ℕ) (count at d i : ℕ) → count ≤ i → marks_in (left_at job count at d i) ≡ no_marks
-none_left job count at d i h =
+pub none_left : (count i : ℕ) (z : ℤ) (bs : List ℕ) → count ≤ i → marks_in (left_at count i z bs) ≡ no_marks
+none_left count i z bs h =
     let none : count - i ≡ 0 = omega arith in
     rw none (no-marks _ _ _)
 
 -- when none is left the lists are filled
-pub filled-all : (job : List ℕ) (count d : ℕ) (left : Strip) (i : ℕ) (old cur : Strip) → verdict_of (marks_behind job count d) ≡ accepted
-    → left ≡ no_marks
-    → count ≤ shortest old → StoringMarks (marks_in (marks_behind job count d)) left i old cur → Filled (marks_behind job count d) old cur
-filled-all job count d left i old cur acc none room s =
-    let g = accepted-given (marks_behind job count d) acc in
-    let k : Count count g.value = count-marks count true _ _ g.value g.is in
+pub filled-all : (count : ℕ) (first : Bool) (z : ℤ) (bs : List ℕ) (left : Strip) (i : ℕ) (old cur : Strip)
+    → verdict_of (decode_records count first z bs) ≡ accepted → left ≡ no_marks → count ≤ shortest old
+    → StoringMarks (marks_in (decode_records count first z bs)) left i old cur → Filled (decode_records count first z bs) old cur
+filled-all count first z bs left i old cur acc none room s =
+    let g = accepted-given (decode_records count first z bs) acc in
+    let k : Count count g.value = count-marks count first z bs g.value g.is in
     rw g.is (storing-ends g.value left i old cur none (omega arith) (omega arith) (omega arith) (rw g.is at s))

@@ -13,26 +13,26 @@ use lib.ListN.{length, drop, length-append}
 use lib.Seq.{drop_at}
 use Rattle.geometry.specs.Mark.{place_in_range_lem}
 use Rattle.geometry.specs.Strip.{most_marks}
-use Rattle.geometry.specs.Refusal.{BytesEnd, OutOfRange}
+use Rattle.geometry.specs.declared.refusal.Refusal.TheVariants.{BytesEnd, OutOfRange}
 use Rattle.geometry.proofs.Split.{and-fst, and-snd}
 use Rattle.geometry.proofs.Dots.{range-mag}
 use Rattle.job.specs.Number.{big_endian, signed, word_of, Bytes}
 use Rattle.job.specs.Outcome.{Outcome, given, checked}
 use Rattle.job.specs.Format.{header_length}
 use Rattle.job.specs.Decode.{header_count, header_place, zero_place, Header, header_of, header_in_range_lem, decode_header}
-use Rattle.job.specs.Encode.{first_place, header_bytes}
+use Rattle.job.specs.Encode.{first_place_lem, header_bytes}
 use Rattle.job.proofs.Numbers.{two_bytes, bytes-two, back-two, same-two}
 use Rattle.job.proofs.SignedWords.{signed_word, word-signed, word_fits}
 use Rattle.job.proofs.Outcomes.{checked-given, given-same}
 use Rattle.job.proofs.RecordsToWrite.{header-size}
 
 -- the first place of no marks is 0, as the reader wants it
-zero-if-none : (places : List ℤ) → (not (eqb (length places) 0) || zero_place (first_place places)) ≡ true
+zero-if-none : (places : List ℤ) → (not (eqb (length places) 0) || zero_place (first_place_lem places)) ≡ true
 zero-if-none [] = refl
 zero-if-none (z ∷ zs) = rw (ne_eqb (length (z ∷ zs)) 0 (omega arith)) refl
 
 -- written and read back, with some bytes behind it
-module _ (places : List ℤ) (rest : List ℕ) (few : length places ≤ most_marks) (fits : place_in_range_lem (first_place places) ≡ true) where
+module _ (places : List ℤ) (rest : List ℕ) (few : length places ≤ most_marks) (fits : place_in_range_lem (first_place_lem places) ≡ true) where
   -- the header and what stands behind it
   abbrev bytes : List ℕ
   bytes = header_bytes places ++ rest
@@ -42,17 +42,17 @@ module _ (places : List ℤ) (rest : List ℕ) (few : length places ≤ most_mar
   unfolding header_bytes
   count-back = rw (bytes-two (length places)) (ap big_endian (sym (bytes-two (length places))) ∙ back-two (length places) (omega arith))
 
-  place-back : header_place bytes ≡ first_place places
+  place-back : header_place bytes ≡ first_place_lem places
   unfolding header_bytes
   place-back =
-      let word = word_of (first_place places) in
-      let small = range-mag (first_place places) fits in
+      let word = word_of (first_place_lem places) in
+      let small = range-mag (first_place_lem places) fits in
       rw (bytes-two (length places), bytes-two word)
       (ap (λ (bs : List ℕ). signed (big_endian bs)) (sym (bytes-two word))
-      ∙ ap signed (back-two word (word_fits (first_place places) small))
-      ∙ signed_word (first_place places) small)
+      ∙ ap signed (back-two word (word_fits (first_place_lem places) small))
+      ∙ signed_word (first_place_lem places) small)
 
-  pub header-back : decode_header bytes ≡ given (header_of (length places) (first_place places))
+  pub header-back : decode_header bytes ≡ given (header_of (length places) (first_place_lem places))
   unfolding decode_header
   header-back =
       let whole : header_length ≤ length bytes = omega (arith, length-append (header_bytes places) rest, header-size places) in
@@ -104,7 +104,7 @@ zero-place-is (negsuc n) e = absurd (mathlib.Core.Bool.false≢true e)
 
 -- read and written back: the same bytes
 pub header-same : (bs : List ℕ) (places : List ℤ) → Bytes bs → header_length ≤ length bs → length places ≡ header_count bs
-    → first_place places ≡ header_place bs → header_bytes places ++ drop header_length bs ≡ bs
+    → first_place_lem places ≡ header_place bs → header_bytes places ++ drop header_length bs ≡ bs
 unfolding header_bytes
 header-same [] places h k n z = absurd (omega arith)
 header-same (a ∷ []) places h k n z = absurd (omega arith)

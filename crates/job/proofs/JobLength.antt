@@ -12,7 +12,7 @@ use Rattle.geometry.specs.Refusal.{accepted}
 use Rattle.geometry.specs.Entry.{entry}
 use Rattle.geometry.proofs.Accepted.{entry-accepted}
 use Rattle.job.specs.Format.{header_length, absent_step, record_most, job_most_of, job_most}
-use Rattle.job.specs.Encode.{encode_record, step_to, encode_records, first_place, encode}
+use Rattle.job.specs.Encode.{encode_record, step_to, encode_records, first_place_lem, encode}
 use Rattle.job.proofs.RecordBytes.{record-most, first-record-most}
 use Rattle.job.proofs.RecordsToWrite.{encode-size}
 
@@ -41,7 +41,7 @@ all_most z (y ∷ zs) (l ∷ ls) (w ∷ ws) =
 
 -- by the count of marks
 pub job-at-most : (s : Strip) → length (encode s) ≤ job_most_of (length s.places)
-job-at-most s = rw (encode-size s) (all_most (first_place s.places) s.places s.lengths s.weights)
+job-at-most s = rw (encode-size s) (all_most (first_place_lem s.places) s.places s.lengths s.weights)
 
 -- more marks have no shorter longest job
 most-grows : (n m : ℕ) → n ≤ m → job_most_of n ≤ job_most_of m

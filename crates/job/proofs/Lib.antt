@@ -4,7 +4,6 @@ pub mod SignedWords
 pub mod Outcomes
 pub mod MapByte
 pub mod FieldChecks
-pub mod RecordChecks
 pub mod HeaderChecks
 pub mod RecordsLeft
 pub mod AllRecords

@@ -1,12 +1,11 @@
 -- The map byte of a record. A bit of 3 to 7 stands exactly in the bytes from 8 on; a byte below 8 is the sum of its three lowest bits,
 -- and each sum of them has just those bits.
-use mathlib.Core.Path.{◌≡◌, refl, ap}
+use mathlib.Core.Path.{◌≡◌, refl}
 use mathlib.Core.Bool.{Bool, true, false, not, cond}
 use mathlib.Core.Logic.{inl, inr}
 use Prim.Native.Nat.{ℕ, zero, suc, ◌+◌, ◌/◌, ◌%◌, ◌≤◌, ◌<◌}
 use native.Mathlib.Omega.{arith}
 use borrow.Author.Tests.{eq-eqb, ne_eqb}
-use lib.Dec.{eqb}
 use Rattle.geometry.specs.Lists.{any_of}
 use Rattle.geometry.proofs.Split.{lt-or-ge, or_left, or_right}
 use Rattle.job.specs.Format.{bit_stands, stray_bits}
@@ -46,10 +45,6 @@ some-stray map h k =
                 ])
           ])
     ]
-
--- the lowest bit is the remainder by 2
-pub lowest-bit : (map : ℕ) → eqb (map % 2) 1 ≡ bit_stands 0 map
-lowest-bit map = let e : map % 2 ≡ map / 1 % 2 = omega arith in ap (λ (k : ℕ). eqb k 1) e
 
 -- a map byte with bit 0, 1 and 2 where the field does not have its absent value
 abbrev pub bits : Bool → Bool → Bool → ℕ

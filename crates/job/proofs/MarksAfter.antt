@@ -14,7 +14,7 @@ use Rattle.geometry.specs.Mark.{place_in_range_lem, length_in_range_lem, weight_
 use Rattle.geometry.specs.Strip.{Strip, strip}
 use Rattle.geometry.proofs.Split.{both}
 use Rattle.geometry.proofs.Accepted.{Accepted, first_good, rest-good}
-use Rattle.job.specs.Encode.{first_place}
+use Rattle.job.specs.Encode.{first_place_lem}
 use Rattle.job.proofs.RisingPlaces.{dots-rise, rising-rest, rising-first, rising-more}
 
 -- the place y comes after the place z; z is y itself at the first mark
@@ -82,12 +82,12 @@ module _ (limit : ℕ) where
   )
 
   -- the first mark comes after its own place
-  begins-first : (zs : List ℤ) → Begins true (first_place zs) zs
+  begins-first : (zs : List ℤ) → Begins true (first_place_lem zs) zs
   begins-first [] = tt
   begins-first (z ∷ zs) = refl
 
-  pub accepted-after : (s : Strip) → Accepted limit s → MarksAfter true (first_place s.places) s.places s.lengths s.weights
-  accepted-after s a = after-lists true (first_place s.places) s.places s.lengths s.weights (begins-first s.places) a
+  pub accepted-after : (s : Strip) → Accepted limit s → MarksAfter true (first_place_lem s.places) s.places s.lengths s.weights
+  accepted-after s a = after-lists true (first_place_lem s.places) s.places s.lengths s.weights (begins-first s.places) a
 
   -- and the other way round: marks that follow one another rise
   after-rising : (y : ℤ) (zs : List ℤ) (ls ws : List ℕ) → place_in_range_lem y ≡ true → MarksAfter false y zs ls ws → rising (y ∷ zs) ≡ true

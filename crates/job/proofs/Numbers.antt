@@ -4,10 +4,8 @@
 use mathlib.Core.Path.{◌≡◌, refl, ap}
 use mathlib.Core.List.{List, [], ◌∷◌}
 use Prim.Native.Nat.{ℕ, zero, suc, ◌+◌, ◌*◌, ◌/◌, ◌%◌, ◌<◌}
-use native.Mathlib.Numerals.{add-one}
 use native.Mathlib.Omega.{arith}
-use lib.ListN.{length, take, drop, get_or}
-use lib.Seq.{drop-cons}
+use lib.ListN.{length, get_or}
 use Rattle.job.specs.Number.{big_endian, bytes_of}
 
 -- what one byte and two bytes stand for
@@ -19,15 +17,17 @@ pub two_bytes : (h l : ℕ) → big_endian (h ∷ l ∷ []) ≡ h * 256 + l
 unfolding big_endian
 two_bytes h l = omega arith
 
--- the number that stands at a position
-pub number-of-one : (bs : List ℕ) (at : ℕ) → at < length bs → big_endian (take 1 (drop at bs)) ≡ get_or bs at 0
-number-of-one bs at h = rw (drop-cons bs at 0 h) (one_byte (get_or bs at 0))
+-- the number of one byte or two that stand in a list
+pub number-of-one : (bs : List ℕ) → length bs ≡ 1 → big_endian bs ≡ get_or bs 0 0
+number-of-one [] h = absurd (omega arith)
+number-of-one (b ∷ []) h = one_byte b
+number-of-one (b ∷ e ∷ bs) h = absurd (omega arith)
 
-pub number-of-two : (bs : List ℕ) (at : ℕ) → at + 1 < length bs → big_endian (take 2 (drop at bs)) ≡ get_or bs at 0 * 256 + get_or bs (at + 1) 0
-number-of-two bs at h =
-    let k : at < length bs = omega arith in
-    let e : drop (suc at) bs ≡ get_or bs (at + 1) 0 ∷ drop (suc (at + 1)) bs = rw (← add-one at) (drop-cons bs (at + 1) 0 h) in
-    rw (drop-cons bs at 0 k, e) (two_bytes (get_or bs at 0) (get_or bs (at + 1) 0))
+pub number-of-two : (bs : List ℕ) → length bs ≡ 2 → big_endian bs ≡ get_or bs 0 0 * 256 + get_or bs 1 0
+number-of-two [] h = absurd (omega arith)
+number-of-two (b ∷ []) h = absurd (omega arith)
+number-of-two (b ∷ e ∷ []) h = two_bytes b e
+number-of-two (b ∷ e ∷ f ∷ bs) h = absurd (omega arith)
 
 -- the bytes of a number
 pub bytes_one : (n : ℕ) → bytes_of 1 n ≡ n % 256 ∷ []

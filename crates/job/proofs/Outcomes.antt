@@ -1,13 +1,15 @@
 -- An outcome is a value or a refusal, and its number tells which: 0 for a value, and else the refusal's own, which is never 0.
 -- A value that is given has passed each check on the way, and a refusal goes through whatever would follow it.
-use mathlib.Core.Path.{◌≡◌, refl, sym, ◌∙◌}
+use mathlib.Core.Path.{◌≡◌, refl, sym, ◌∙◌, ap}
 use mathlib.Core.Bool.{Bool, true, false}
-use Prim.Native.Nat.{ℕ}
+use Prim.Native.Nat.{ℕ, ◌≤◌}
+use lib.Dec.{leb}
+use borrow.Author.Tests.{leb-true}
 use native.Mathlib.Omega.{arith}
-use Rattle.geometry.specs.Refusal.{Refusal, refusal_number, accepted, number_of}
+use Rattle.geometry.specs.declared.refusal.Refusal.{Refusal}
+use Rattle.geometry.specs.Refusal.{refusal_number, accepted, refused, number_of, after_check}
 use Rattle.geometry.proofs.Verdicts.{refusal-positive}
 use Rattle.job.specs.Outcome.{Outcome, given, refusal, checked, and_then, verdict_of}
-use Rattle.job.specs.inner.Step.{Reports}
 
 -- an outcome that is a refusal with number n
 pub record IsRefused {A : Type 0} (n : ℕ) (d : Outcome A) : Type 0 where
@@ -43,28 +45,6 @@ pub accepted-given : {A : Type 0} (d : Outcome A) → verdict_of d ≡ accepted 
 accepted-given (given a) e = record { value = a; is = refl; holds = tt }
 accepted-given (refusal r) e = let z : ◌≡◌ {A = ℕ} 0 1 = cc in absurd (omega arith)
 
--- and so does the number that a step of the reader reports
-pub reported-refused : {A : Type 0} (n : ℕ) (d : Outcome A) (P : A → Type 0) → Reports n d P → (n ≡ 0 → ⊥) → IsRefused n d
-reported-refused n (given a) P s h = absurd (h s.0)
-reported-refused n (refusal r) P s h = record { which = r; is = refl; number = s }
-
-pub reported-given : {A : Type 0} (n : ℕ) (d : Outcome A) (P : A → Type 0) → Reports n d P → n ≡ 0 → IsGiven d P
-reported-given n (given a) P s h = record { value = a; is = refl; holds = s.1 }
-reported-given n (refusal r) P s h = absurd (refusal-positive r (sym s ∙ h))
-
--- a refusal that is handed on
-pub report-refusal : {A : Type 0} {n m : ℕ} {d : Outcome A} (P : A → Type 0) → n ≡ m → IsRefused m d → Reports n d P
-report-refusal P e q = rw q.is (e ∙ q.number)
-
--- where the one outcome is a refusal, so is the other
-pub refused-too : {A B : Type 0} {n : ℕ} {d : Outcome A} {e : Outcome B} → ((r : Refusal) → d ≡ refusal r → e ≡ refusal r)
-    → IsRefused n d → IsRefused n e
-refused-too follows q = record { which = q.which; is = follows q.which q.is; number = q.number }
-
--- a refusal that is known, with its number
-pub refused-is : {A : Type 0} {d : Outcome A} (r : Refusal) → d ≡ refusal r → IsRefused (refusal_number r) d
-refused-is r e = record { which = r; is = e; number = refl }
-
 -- the other way: a value that stands behind a check that was passed
 pub record Passed {A : Type 0} (t : Bool) (o : Outcome A) (a : A) : Type 0 where
   pub passes : t ≡ true
@@ -85,3 +65,25 @@ pub record Through {A B : Type 0} (d : Outcome A) (f : A → Outcome B) (b : B) 
 pub then-given : {A B : Type 0} (d : Outcome A) (f : A → Outcome B) (b : B) → and_then d f ≡ given b → Through d f b
 then-given (given a) f b e = record { first = a; is = refl; after = e }
 then-given (refusal r) f b e = never r b e
+
+-- a check that refused refuses what stands behind it, and one that passed leaves it
+pub check-refused : {A : Type 0} (t : Bool) (q r : Refusal) (o : Outcome A) → refused r ≡ after_check t q accepted → checked t q o ≡ refusal r
+check-refused true q r o e = absurd (refusal-positive r (ap number_of e))
+check-refused false q r o e = let same : r ≡ q = cc in ap (λ (r : Refusal). refusal r) (sym same)
+
+pub check-passed : {A : Type 0} (t : Bool) (q : Refusal) (o : Outcome A) → accepted ≡ after_check t q accepted → checked t q o ≡ o
+check-passed true q o e = refl
+check-passed false q o e = absurd (refusal-positive q (sym (ap number_of e)))
+
+-- an outcome is the refusal that its verdict is
+pub verdict-refused : {A : Type 0} (o : Outcome A) (r : Refusal) → refused r ≡ verdict_of o → o ≡ refusal r
+verdict-refused (given a) r e = absurd (refusal-positive r (ap number_of e))
+verdict-refused (refusal q) r e = let same : r ≡ q = cc in ap (λ (r : Refusal). refusal r) (sym same)
+
+-- a count that was checked is no more than the most
+pub check-holds : (n most : ℕ) (q : Refusal) → accepted ≡ after_check (leb n most) q accepted → n ≤ most
+check-holds n most q e = leb-true n most (passed (leb n most) e)
+  where
+    passed : (t : Bool) → accepted ≡ after_check t q accepted → t ≡ true
+    passed true e = refl
+    passed false e = absurd (refusal-positive q (sym (ap number_of e)))

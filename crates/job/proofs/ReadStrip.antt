@@ -7,7 +7,8 @@ use Prim.Native.Nat.{ℕ, ◌≤◌}
 use native.Mathlib.Omega.{arith}
 use lib.ListN.{length, take}
 use Rattle.geometry.specs.Strip.{Strip, strip, first_marks, most_marks}
-use Rattle.geometry.specs.Refusal.{Refusal, accepted, refusal_number}
+use Rattle.geometry.specs.declared.refusal.Refusal.{Refusal}
+use Rattle.geometry.specs.Refusal.{accepted, refusal_number}
 use Rattle.geometry.specs.Entry.{entry}
 use Rattle.geometry.specs.Pass.{written}
 use Rattle.geometry.proofs.Accepted.{entry-accepted}
@@ -15,9 +16,7 @@ use Rattle.geometry.proofs.Lent.{same-three, used-is, used-within}
 use Rattle.job.specs.Number.{Bytes}
 use Rattle.job.specs.Outcome.{given, refusal}
 use Rattle.job.specs.Encode.{job_for}
-use Rattle.job.specs.Calls.{ReadContract, WriteContract, shortest, read_into}
-use Rattle.job.specs.declared.answer.Read.{Read}
-use Rattle.job.specs.declared.answer.Written.{Written}
+use Rattle.job.specs.Calls.{Read, Written, ReadContract, WriteContract, shortest, read_into}
 use Rattle.job.proofs.Outcomes.{number-given, number-refused}
 use Rattle.job.proofs.RoundTrips.{read-accepted}
 

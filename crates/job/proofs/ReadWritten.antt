@@ -14,7 +14,7 @@ use lib.Signed.{le_z}
 use Rattle.geometry.specs.Dot.{dot}
 use Rattle.geometry.specs.Mark.{place_in_range_lem, most_place}
 use Rattle.geometry.specs.Strip.{Strip}
-use Rattle.geometry.specs.Refusal.{StrayBit}
+use Rattle.geometry.specs.declared.refusal.Refusal.TheVariants.{StrayBit}
 use Rattle.geometry.specs.inner.Place.{place_of_lem, most_dot}
 use Rattle.geometry.proofs.Split.{lt-or-ge, clash, one-to}
 use Rattle.geometry.proofs.Dots.{dot-add, range-dots, range-mag}

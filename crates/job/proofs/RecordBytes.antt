@@ -6,13 +6,11 @@ use mathlib.Core.List.{List, [], ◌∷◌, ◌++◌, append_assoc}
 use Prim.Native.Nat.{ℕ, ◌+◌, ◌≤◌}
 use native.Mathlib.Omega.{arith}
 use borrow.Author.Tests.{eq-eqb, ne_eqb}
-use lib.Dec.{eqb}
 use lib.ListN.{length, length-append}
 use Rattle.geometry.proofs.Split.{by_eqb}
 use Rattle.job.specs.Number.{bytes_of}
-use Rattle.job.specs.Format.{byte_width, word_width, absent_step, absent_length, absent_weight, Field, first_record_most, record_most}
-use Rattle.job.specs.Encode.{encode_bit, encode_field, encode_map, encode_record}
-use Rattle.job.specs.inner.Step.{row}
+use Rattle.job.specs.Format.{absent_step, Field, step_field, length_field, weight_field, first_record_most, record_most}
+use Rattle.job.specs.Encode.{encode_field, encode_map, encode_record}
 use Rattle.job.proofs.Numbers.{bytes-length}
 
 -- a field is left out if it has its absent value
@@ -29,22 +27,17 @@ unfolding encode_field
 field-most f v =
     by_eqb v f.absent (λ t. length (cond t [] (bytes_of f.width v)) ≤ f.width) (λ e. omega arith) (λ n. omega (arith, bytes-length f.width v))
 
--- the three fields, as the writer passes them on
+-- the three fields
 abbrev pub step_bytes : ℕ → List ℕ
-step_bytes step = encode_field (row word_width absent_step 0) step
+step_bytes step = encode_field step_field step
 
 abbrev pub length_bytes : ℕ → List ℕ
-length_bytes l = encode_field (row byte_width absent_length 0) l
+length_bytes l = encode_field length_field l
 
 abbrev pub weight_bytes : ℕ → List ℕ
-weight_bytes w = encode_field (row word_width absent_weight 0) w
+weight_bytes w = encode_field weight_field w
 
 module _ (step l w : ℕ) where
-  -- the map byte, as the writer adds it up
-  pub map-sum : cond (eqb step absent_step) 0 1 + cond (eqb l absent_length) 0 2 + cond (eqb w absent_weight) 0 4 ≡ encode_map step l w
-  unfolding encode_map encode_bit
-  map-sum = omega arith
-
   -- the bytes of a record, by the fields as they are passed on
   record-bytes : encode_record step l w ≡ encode_map step l w ∷ (step_bytes step ++ (length_bytes l ++ weight_bytes w))
   unfolding encode_record encode_field
@@ -64,13 +57,13 @@ module _ (step l w : ℕ) where
       omega (
         arith,
         record-size,
-        field-most (row word_width absent_step 0) step,
-        field-most (row byte_width absent_length 0) l,
-        field-most (row word_width absent_weight 0) w,
+        field-most step_field step,
+        field-most length_field l,
+        field-most weight_field w,
       )
 
 -- the first record has no step
 pub first-record-most : (l w : ℕ) → length (encode_record absent_step l w) ≤ first_record_most
 first-record-most l w =
-    let no_step : length (step_bytes absent_step) ≡ 0 = rw (field-none (row word_width absent_step 0) absent_step refl) refl in
-    omega (arith, record-size absent_step l w, field-most (row byte_width absent_length 0) l, field-most (row word_width absent_weight 0) w)
+    let no_step : length (step_bytes absent_step) ≡ 0 = rw (field-none step_field absent_step refl) refl in
+    omega (arith, record-size absent_step l w, field-most length_field l, field-most weight_field w)

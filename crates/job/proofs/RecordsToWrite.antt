@@ -14,7 +14,7 @@ use Rattle.geometry.specs.Strip.{Strip, most_marks}
 use Rattle.geometry.proofs.Accepted.{entry-accepted}
 use Rattle.job.specs.Number.{bytes_of, word_of}
 use Rattle.job.specs.Format.{word_width, header_length}
-use Rattle.job.specs.Encode.{encode_records, first_place, header_bytes, records_of, encode}
+use Rattle.job.specs.Encode.{encode_records, first_place_lem, header_bytes, records_of, encode}
 use Rattle.job.specs.inner.Put.{PutAt, Writable, bytes_of_record, RecordOf}
 use Rattle.job.specs.declared.writer.Record.{Record}
 use Rattle.job.proofs.Numbers.{bytes-length}
@@ -46,9 +46,9 @@ pub header-size : (places : List ℤ) → length (header_bytes places) ≡ heade
 unfolding header_bytes
 header-size places =
     rw (
-      length-append (bytes_of word_width (length places)) (bytes_of word_width (word_of (first_place places))),
+      length-append (bytes_of word_width (length places)) (bytes_of word_width (word_of (first_place_lem places))),
       bytes-length word_width (length places),
-      bytes-length word_width (word_of (first_place places)),
+      bytes-length word_width (word_of (first_place_lem places)),
     ) refl
 
 pub encode-size : (s : Strip) → length (encode s) ≡ header_length + length (records_of s)

@@ -12,14 +12,15 @@ use lib.IntN.{ℤ}
 use lib.ListN.{length, drop}
 use Rattle.geometry.specs.Mark.{place_in_range_lem}
 use Rattle.geometry.specs.Strip.{Strip, most_marks}
-use Rattle.geometry.specs.Refusal.{accepted, ListTooShort}
+use Rattle.geometry.specs.declared.refusal.Refusal.TheVariants.{ListTooShort}
+use Rattle.geometry.specs.Refusal.{accepted}
 use Rattle.geometry.specs.Entry.{entry}
 use Rattle.geometry.proofs.Accepted.{entry-accepted, accepted-entry}
 use Rattle.job.specs.Number.{Bytes}
 use Rattle.job.specs.Outcome.{given, refusal, checked}
 use Rattle.job.specs.Format.{header_length}
 use Rattle.job.specs.Decode.{decode_records, zero_place, Header, decode_header, decode}
-use Rattle.job.specs.Encode.{first_place, records_of, encode, job_for}
+use Rattle.job.specs.Encode.{first_place_lem, records_of, encode, job_for}
 use Rattle.job.proofs.Outcomes.{checked-given, then-given}
 use Rattle.job.proofs.AllRecords.{count-marks}
 use Rattle.job.proofs.WriteContract.{job-inverse, job-made}
@@ -30,7 +31,7 @@ use Rattle.job.proofs.ReadWritten.{RecordsBack, records-inverse}
 use Rattle.job.proofs.HeaderTrips.{header-back, behind-header, HeaderBack, header-inverse, zero-place-is, header-same}
 
 -- the first place of marks that follow one another is in range; with no marks it is 0
-first-in-range : (z : ℤ) (zs : List ℤ) (ls ws : List ℕ) → MarksAfter true z zs ls ws → place_in_range_lem (first_place zs) ≡ true
+first-in-range : (z : ℤ) (zs : List ℤ) (ls ws : List ℕ) → MarksAfter true z zs ls ws → place_in_range_lem (first_place_lem zs) ≡ true
 first-in-range z [] ls ws h = refl
 first-in-range z (y ∷ zs) [] ws h = absurd h
 first-in-range z (y ∷ zs) (l ∷ ls) [] h = absurd h
@@ -39,11 +40,11 @@ first-in-range z (y ∷ zs) (l ∷ ls) (w ∷ ws) h = h.0.place
 -- a strip that the writer takes, written and read back, is the same strip
 module _ (s : Strip) (good : entry most_marks s ≡ accepted) where
   -- its marks follow one another, from the header's place on
-  after : MarksAfter true (first_place s.places) s.places s.lengths s.weights
+  after : MarksAfter true (first_place_lem s.places) s.places s.lengths s.weights
   after = accepted-after most_marks s (entry-accepted most_marks s good)
 
-  fits : place_in_range_lem (first_place s.places) ≡ true
-  fits = first-in-range (first_place s.places) s.places s.lengths s.weights after
+  fits : place_in_range_lem (first_place_lem s.places) ≡ true
+  fits = first-in-range (first_place_lem s.places) s.places s.lengths s.weights after
 
   pub same-strip : (shortest : ℕ) → length s.places ≤ shortest → decode shortest (encode s) ≡ given s
   unfolding decode encode
@@ -53,11 +54,11 @@ module _ (s : Strip) (good : entry most_marks s ≡ accepted) where
         header-back s.places (records_of s) few fits,
         le-leb (length s.places) shortest enough,
         behind-header s.places (records_of s) few fits,
-      ) (records-back true (first_place s.places) s.places s.lengths s.weights fits after)
+      ) (records-back true (first_place_lem s.places) s.places s.lengths s.weights fits after)
 
 -- the header's place is the first mark's, or 0
 first-is-header : (z : ℤ) (n : ℕ) (zs : List ℤ) (ls ws : List ℕ) → MarksAfter true z zs ls ws → n ≡ length zs
-    → (not (eqb n 0) || zero_place z) ≡ true → first_place zs ≡ z
+    → (not (eqb n 0) || zero_place z) ≡ true → first_place_lem zs ≡ z
 first-is-header z n [] [] [] h k e = zero-place-is z (rw (eq-eqb n 0 k) at e)
 first-is-header z n [] [] (w ∷ ws) h k e = absurd h
 first-is-header z n [] (l ∷ ls) ws h k e = absurd h
@@ -94,7 +95,7 @@ module _ (shortest : ℕ) (job : List ℕ) (s : Strip) (read : decode shortest j
         records-inverse parts.header.count true parts.header.place (drop header_length job) s parts.header-good.in-range
         (bytes_drop header_length job bytes) parts.records
 
-    first : first_place s.places ≡ parts.header.place
+    first : first_place_lem s.places ≡ parts.header.place
     first =
         first-is-header parts.header.place parts.header.count s.places s.lengths s.weights back.marks-after counted
         parts.header-good.zero-at-none

@@ -48,15 +48,6 @@ pub record StoringMarks (whole left : Strip) (i : ℕ) (old cur : Strip) : Type 
   pub lengths : Storing whole.lengths left.lengths i old.lengths cur.lengths
   pub weights : Storing whole.weights left.weights i old.weights cur.weights
 
--- nothing is stored yet
-pub storing-starts : (whole old : Strip) → StoringMarks whole whole 0 old old
-storing-starts whole old =
-    record {
-      places = record { as_long = refl; stores = refl };
-      lengths = record { as_long = refl; stores = refl };
-      weights = record { as_long = refl; stores = refl };
-    }
-
 -- the first mark that is left is stored
 pub storing-next : (whole left : Strip) (i : ℕ) (old cur : Strip) (m : SignedMark) (others : Strip) → left ≡ cons_mark m others
     → StoringMarks whole left i old cur

@@ -1,13 +1,31 @@
 -- What the two job calls settle: the number, the count or the length, and each lent list at exit.
-use Rattle.std.specs.Prelude.{ℕ, min, ◌≡◌, List, length}
+use Rattle.std.specs.Prelude.{ℕ, min, ◌≡◌, List, length, Result, Ok, Err}
 use Rattle.geometry.specs.Strip.{Strip}
-use Rattle.geometry.specs.Refusal.{number_of}
+use Rattle.geometry.specs.declared.refusal.Refusal.{Refusal}
+use Rattle.geometry.specs.Refusal.{refusal_number, number_of}
 use Rattle.geometry.specs.Pass.{written}
 use Rattle.job.specs.Outcome.{Outcome, given, refusal, verdict_of}
 use Rattle.job.specs.Decode.{decode}
 use Rattle.job.specs.Encode.{job_for}
-use Rattle.job.specs.declared.answer.Read.{Read}
-use Rattle.job.specs.declared.answer.Written.{Written}
+
+-- what the reader gives: "An accepted call gives number 0; the reader also gives the count of marks, the writer the job's length."
+pub record Read : Type 0 where
+  pub number : ℕ
+  pub count : ℕ
+
+-- and the writer
+pub record Written : Type 0 where
+  pub number : ℕ
+  pub length : ℕ
+
+-- "When an answer is an enum, a definition gives this paper's number and values for each of its cases."
+abbrev pub read_answer : Result ℕ Refusal → Read
+read_answer (Ok count) = record { number = 0; count = count }
+read_answer (Err r) = record { number = refusal_number r; count = 0 }
+
+abbrev pub written_answer : Result ℕ Refusal → Written
+written_answer (Ok length) = record { number = 0; length = length }
+written_answer (Err r) = record { number = refusal_number r; length = 0 }
 
 -- how many elements an accepted call uses of a list; "Every refusal gives its number, with sum, count and length 0"
 abbrev pub used_of : {M A : Type 0} → (M → List A) → Outcome M → ℕ

@@ -3,7 +3,7 @@ use Rattle.std.specs.Prelude.{ℕ, zero, suc, List, [], ◌∷◌, Bool, true, f
 use Rattle.std.specs.Int.Signed.{le_z}
 use Rattle.geometry.specs.Mark.{place_in_range_lem, most_place}
 use Rattle.geometry.specs.Strip.{Strip, strip, most_marks}
-use Rattle.geometry.specs.Refusal.{BytesEnd, StrayBit, AbsentValue, OutOfRange, BytesLeftOver, ListTooShort}
+use Rattle.geometry.specs.declared.refusal.Refusal.TheVariants.{BytesEnd, StrayBit, AbsentValue, OutOfRange, BytesLeftOver, ListTooShort}
 use Rattle.job.specs.Number.{big_endian, signed}
 use Rattle.job.specs.Outcome.{Outcome, given, refusal, checked, and_then}
 use Rattle.job.specs.Format.{word_width, header_length, Field, step_field, length_field, weight_field, bit_stands, stray_bits}

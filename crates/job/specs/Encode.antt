@@ -3,7 +3,8 @@
 use Rattle.std.specs.Prelude.{ℕ, ◌+◌, ◌-◌, ◌^◌, List, [], ◌∷◌, ◌++◌, Bool, true, false, cond, leb, eqb, ℤ, pos, length, get_or}
 use Rattle.geometry.specs.Dot.{dot}
 use Rattle.geometry.specs.Strip.{Strip, most_marks}
-use Rattle.geometry.specs.Refusal.{Verdict, accepted, refused, ListTooShort}
+use Rattle.geometry.specs.declared.refusal.Refusal.TheVariants.{ListTooShort}
+use Rattle.geometry.specs.Refusal.{Verdict, accepted, refused}
 use Rattle.geometry.specs.Entry.{entry}
 use Rattle.job.specs.Number.{bytes_of, word_of}
 use Rattle.job.specs.Outcome.{Outcome, given, refusal, checked}
@@ -36,15 +37,15 @@ encode_records first z (y ∷ zs) (l ∷ ls) [] = []
 encode_records first z (y ∷ zs) (l ∷ ls) (w ∷ ws) = encode_record (step_to first z y) l w ++ encode_records false y zs ls ws
 
 -- "place of the first mark (..; 0 if the count is 0)"
-abbrev pub first_place : List ℤ → ℤ
-first_place places = get_or places 0 (pos 0)
+abbrev pub first_place_lem : List ℤ → ℤ
+first_place_lem places = get_or places 0 (pos 0)
 
 -- "Header: count of marks (16 bits), place of the first mark (signed 16 bits, two's complement; ..)."
 unfoldable pub header_bytes : List ℤ → List ℕ
-header_bytes places = bytes_of word_width (length places) ++ bytes_of word_width (word_of (first_place places))
+header_bytes places = bytes_of word_width (length places) ++ bytes_of word_width (word_of (first_place_lem places))
 
 abbrev pub records_of : Strip → List ℕ
-records_of s = encode_records true (first_place s.places) s.places s.lengths s.weights
+records_of s = encode_records true (first_place_lem s.places) s.places s.lengths s.weights
 
 unfoldable pub encode : Strip → List ℕ
 encode s = header_bytes s.places ++ records_of s

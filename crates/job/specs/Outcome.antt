@@ -1,6 +1,7 @@
 -- "The first check that is not passed decides. Every refusal gives its number": what a job call finds, a value or a refusal.
-use Rattle.std.specs.Prelude.{Bool, true, false}
-use Rattle.geometry.specs.Refusal.{Refusal, Verdict, accepted, refused}
+use Rattle.std.specs.Prelude.{Bool, true, false, Result, Ok, Err}
+use Rattle.geometry.specs.declared.refusal.Refusal.{Refusal}
+use Rattle.geometry.specs.Refusal.{Verdict, accepted, refused}
 
 pub data Outcome (A : Type 0) : Type 0 where
   given : A → Outcome A
@@ -20,3 +21,8 @@ and_then (refusal r) f = refusal r
 abbrev pub verdict_of : {A : Type 0} → Outcome A → Verdict
 verdict_of (given a) = accepted
 verdict_of (refusal r) = refused r
+
+-- what an answer hands over, seen by a view of it: the same two cases
+abbrev pub outcome_of : {X A : Type 0} → (X → A) → Result X Refusal → Outcome A
+outcome_of view (Ok x) = given (view x)
+outcome_of view (Err r) = refusal r

@@ -1,86 +1,97 @@
-// One number of a job, big-endian, and one field of a record.
-ghost use Rattle.std.specs.Prelude.{◌≡◌, ◌+◌, ◌≤◌, ◌<◌, length, take, drop};
+// The fields of a record, row by row of the table, and how one is read.
+ghost use Rattle.std.specs.Prelude.{◌≡◌, ◌^◌, ◌≤◌, length};
 ghost use Rattle.job.specs.Number.{big_endian};
-ghost use Rattle.job.specs.Format.{byte_width, word_width};
-ghost use Rattle.job.specs.Decode.{field_if};
-ghost use Rattle.job.specs.inner.Step.{Reports, row, FieldAt};
+ghost use Rattle.job.specs.Format.{byte_width, word_width, bit_stands};
+ghost use Rattle.job.specs.Outcome.{outcome_of};
+ghost use Rattle.job.specs.Decode.{decode_field};
+ghost use Rattle.job.specs.inner.Step.{row_of, front_of};
 
-use crate::format::BYTE_WIDTH;
-use geometry::refusal::{ABSENT_VALUE, BYTES_END, OUT_OF_RANGE};
+use crate::format::{ABSENT_LENGTH, ABSENT_STEP, ABSENT_WEIGHT, MOST_STEP};
+use geometry::limits::{MOST_LENGTH, MOST_WEIGHT};
+use geometry::refusal::Refusal;
 
-// A field that was read: its value and the position after it, or the number of a refusal.
-#[derive(Clone, Copy)]
-pub struct FieldRead {
-    pub number: u8,
-    pub value: u16,
-    pub next: usize,
+// A field; its number is what its bit is worth in the map byte.
+#[derive(Clone, Copy, Debug, PartialEq, Eq)]
+pub enum Field {
+    Step = 1,
+    Length = 2,
+    Weight = 4,
 }
 
-fn no_field(number: u8) -> FieldRead
-    ensures { result.number ≡ number }
-{
-    FieldRead {
-        number,
-        value: 0,
-        next: 0,
+impl Field {
+    pub fn bit(self) -> u8
+        ensures { result ≡ 2 ^ (row_of self).bit }
+    {
+        self as u8
     }
-}
 
-fn wide(b: u8) -> u16
-    ensures { (result ≡ b) × (result < 256) }
-{
-    b as u16
-}
-
-// The number that stands in `width` bytes, one or two.
-pub fn number_at(job: &[u8], at: usize, width: usize) -> u16
-    requires { (byte_width ≤ width) × (width ≤ word_width) × (at + width ≤ length job.now) }
-    ensures { result ≡ big_endian (take width (drop at job.now)) }
-{
-    if width == BYTE_WIDTH {
-        return wide(job[at]);
+    pub fn width(self) -> usize
+        ensures { result ≡ (row_of self).width }
+    {
+        match self {
+            Field::Step | Field::Weight => 2,
+            Field::Length => 1,
+        }
     }
-    let high = wide(job[at]);
-    let low = wide(job[at + 1]);
-    high * 256 + low
-}
 
-// The field at a position: its absent value where its bit does not stand. Else 1 if the bytes end inside it, 3 if it holds its
-// absent value, 4 if it is not in 1 to `most`.
-pub fn read_field(
-    job: &[u8],
-    at: usize,
-    stands: bool,
-    width: usize,
-    absent: u16,
-    most: u16,
-) -> FieldRead
-    requires { (byte_width ≤ width) × (width ≤ word_width) × (at ≤ length job.now) × (absent ≤ most) }
-    ensures { Reports result.number (field_if stands (row width absent most) (drop at job.now)) (FieldAt job.now most result) }
-{
-    if !stands {
-        return FieldRead {
-            number: 0,
-            value: absent,
-            next: at,
+    pub fn absent(self) -> u16
+        ensures { result ≡ (row_of self).absent }
+    {
+        match self {
+            Field::Step => ABSENT_STEP,
+            Field::Length => ABSENT_LENGTH,
+            Field::Weight => ABSENT_WEIGHT,
+        }
+    }
+
+    // Whether the field's bit stands in a map byte.
+    pub fn stands_in(self, map: u8) -> bool
+        ensures { result ≡ bit_stands (row_of self).bit map }
+    {
+        map / self.bit() % 2 == 1
+    }
+
+    fn in_range(self, value: u16) -> bool
+        ensures { result ≡ (row_of self).in_range value }
+    {
+        let most = match self {
+            Field::Step => MOST_STEP,
+            Field::Length => MOST_LENGTH as u16,
+            Field::Weight => MOST_WEIGHT,
         };
+        1 <= value && value <= most
     }
-    if job.len() - at < width {
-        return no_field(BYTES_END);
+}
+
+// The number that one byte or two stand for.
+fn number_of(bytes: &[u8]) -> u16
+    requires { (byte_width ≤ length bytes.now) × (length bytes.now ≤ word_width) }
+    ensures { result ≡ big_endian bytes.now }
+{
+    if bytes.len() == 1 {
+        return bytes[0] as u16;
     }
-    let value = number_at(job, at, width);
-    if value == absent {
-        return no_field(ABSENT_VALUE);
+    u16::from_be_bytes([bytes[0], bytes[1]])
+}
+
+// The field at the front of some bytes, and the bytes after it: its absent value where its bit does not stand. Else 1 if the bytes end
+// inside it, 3 if it holds its absent value, 4 if it is out of range.
+pub fn read_field(field: Field, map: u8, bytes: &[u8]) -> Result<(u16, &[u8]), Refusal>
+    ensures { outcome_of front_of result ≡ decode_field (row_of field) map bytes.now }
+{
+    if !field.stands_in(map) {
+        return Ok((field.absent(), bytes));
     }
-    if value < 1 {
-        return no_field(OUT_OF_RANGE);
+    if bytes.len() < field.width() {
+        return Err(Refusal::BytesEnd);
     }
-    if most < value {
-        return no_field(OUT_OF_RANGE);
+    let (own, rest) = bytes.split_at(field.width());
+    let value = number_of(own);
+    if value == field.absent() {
+        return Err(Refusal::AbsentValue);
     }
-    FieldRead {
-        number: 0,
-        value,
-        next: at + width,
+    if !field.in_range(value) {
+        return Err(Refusal::OutOfRange);
     }
+    Ok((value, rest))
 }

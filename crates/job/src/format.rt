@@ -1,6 +1,4 @@
 // The numbers of the job's form, by the names that they have in the specifications.
-pub const BYTE_WIDTH: usize = 1;
-
 pub const WORD_WIDTH: usize = 2;
 
 pub const HEADER_LENGTH: usize = 4;

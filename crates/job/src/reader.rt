@@ -1,157 +1,105 @@
 // The job reader: the whole job is checked before a lent list is filled, so that a refusal changes none.
-ghost use Rattle.std.specs.Prelude.{◌≡◌, ◌≤◌, length};
+ghost use Rattle.std.specs.Prelude.{◌≡◌, drop, IfOk};
 ghost use Rattle.geometry.specs.Strip.{strip};
-ghost use Rattle.geometry.specs.Refusal.{number_of};
-ghost use Rattle.geometry.specs.inner.Place.{place_of_lem, most_dot};
-ghost use Rattle.job.specs.Outcome.{verdict_of};
+ghost use Rattle.geometry.specs.Refusal.{verdict_of};
+ghost use Rattle.job.specs.Outcome.{outcome_of};
+ghost use Rattle.job.specs.Outcome.{verdict_of as verdict_on};
 ghost use Rattle.job.specs.Format.{header_length};
 ghost use Rattle.job.specs.Decode.{header_in_range_lem, decode_header};
-ghost use Rattle.job.specs.Calls.{ReadContract};
-ghost use Rattle.job.specs.inner.Step.{Reports, HeaderAt, marks_behind, Fillable, Filled};
+ghost use Rattle.job.specs.Calls.{ReadContract, read_answer};
+ghost use Rattle.job.specs.inner.Step.{header_view, marks_behind, Fillable, Filled};
 
-use crate::answer::Read;
-use crate::dots::dot_of_word;
-use crate::field::number_at;
-use crate::format::{HEADER_LENGTH, WORD_WIDTH};
+use crate::format::HEADER_LENGTH;
 use crate::record::read_record;
-use geometry::dot::{LEAST_DOT, MOST_DOT, ZERO_DOT, place_of};
+use geometry::entry::place_in_range;
 use geometry::limits::MOST_MARKS;
-use geometry::numbers::smaller;
-use geometry::refusal::{BYTES_END, BYTES_LEFT_OVER, LIST_TOO_SHORT, OUT_OF_RANGE};
+use geometry::refusal::{Refusal, check};
 
-// A header that was read: the count of marks and the dot of the first place, or the number of a refusal.
-#[derive(Clone, Copy)]
-pub struct HeaderRead {
-    pub number: u8,
+// A header: the count of marks and the place of the first.
+#[derive(Clone, Copy, Debug, PartialEq, Eq)]
+pub struct Header {
     pub count: usize,
-    pub dot: u16,
-}
-
-fn no_header(number: u8) -> HeaderRead
-    ensures { result.number ≡ number }
-{
-    HeaderRead {
-        number,
-        count: 0,
-        dot: 0,
-    }
+    pub place: i16,
 }
 
 // Whether the count is at most 4,000, the first place in its range, and 0 at count 0.
-fn header_in_range(count: usize, dot: u16) -> bool
-    ensures { result ≡ header_in_range_lem count (place_of_lem dot) }
+fn header_in_range(count: usize, place: i16) -> bool
+    ensures { result ≡ header_in_range_lem count place }
 {
-    if MOST_MARKS < count {
-        return false;
-    }
-    if dot < LEAST_DOT {
-        return false;
-    }
-    if MOST_DOT < dot {
-        return false;
-    }
-    if count != 0 {
-        return true;
-    }
-    dot == ZERO_DOT
+    count <= MOST_MARKS && place_in_range(place) && (count != 0 || place == 0)
 }
 
-fn read_header(job: &[u8]) -> HeaderRead
-    ensures { Reports result.number (decode_header job.now) (HeaderAt job.now result) }
+// The header, and the bytes behind it.
+#[tactic(auto, unfolding(crate::specs::Decode::decode_header))]
+fn read_header(job: &[u8]) -> Result<(Header, &[u8]), Refusal>
+    ensures header { outcome_of header_view result ≡ decode_header job.now }
+    ensures behind { IfOk result (λ x. x.1.now ≡ drop header_length job.now) }
 {
     if job.len() < HEADER_LENGTH {
-        return no_header(BYTES_END);
+        return Err(Refusal::BytesEnd);
     }
-    let count = number_at(job, 0, WORD_WIDTH) as usize;
-    let dot = dot_of_word(number_at(job, WORD_WIDTH, WORD_WIDTH));
-    if !header_in_range(count, dot) {
-        return no_header(OUT_OF_RANGE);
+    let (own, rest) = job.split_at(HEADER_LENGTH);
+    let count = u16::from_be_bytes([own[0], own[1]]) as usize;
+    let place = i16::from_be_bytes([own[2], own[3]]);
+    if !header_in_range(count, place) {
+        return Err(Refusal::OutOfRange);
     }
-    HeaderRead {
-        number: 0,
-        count,
-        dot,
-    }
+    Ok((Header { count, place }, rest))
 }
 
-// The number of the first check that the records do not pass, 0 if they pass all.
-fn check_records(job: &[u8], count: usize, first: u16) -> u8
-    requires { (header_length ≤ length job.now) × (first ≤ most_dot) }
-    ensures { result ≡ number_of (verdict_of (marks_behind job.now count first)) }
+// The first check that the records do not pass.
+fn check_records(header: Header, records: &[u8]) -> Result<(), Refusal>
+    ensures { verdict_of result ≡ verdict_on (marks_behind header records.now) }
 {
-    let mut at = HEADER_LENGTH;
-    let mut dot = first;
-    let mut i: usize = 0;
-    while i < count {
-        let record = read_record(job, at, i == 0, dot);
-        if record.number != 0 {
-            return record.number;
-        }
-        at = record.next;
-        dot = record.dot;
-        i += 1;
+    let mut place = header.place;
+    let mut rest = records;
+    for i in 0..header.count {
+        let (mark, after) = read_record(i == 0, place, rest)?;
+        place = mark.place;
+        rest = after;
     }
-    if at < job.len() {
-        return BYTES_LEFT_OVER;
-    }
-    0
+    check(rest.is_empty(), Refusal::BytesLeftOver)
 }
 
-// Fills the three lists from records that pass every check.
-fn fill(
-    job: &[u8],
-    count: usize,
-    first: u16,
-    places: &mut [i16],
-    lengths: &mut [u8],
-    weights: &mut [u16],
-)
-    requires { Fillable job.now count first (strip places.old lengths.old weights.old) }
+// Fills the three lists from records that pass every check: so each is read, and no call returns early.
+fn fill(header: Header, records: &[u8], places: &mut [i16], lengths: &mut [u8], weights: &mut [u16])
+    requires { Fillable (marks_behind header records.now) header.count (strip places.old lengths.old weights.old) }
     ensures { Filled
-        (marks_behind job.now count first)
+        (marks_behind header records.now)
         (strip places.old lengths.old weights.old)
         (strip places.new lengths.new weights.new) }
 {
-    let mut at = HEADER_LENGTH;
-    let mut dot = first;
-    let mut i: usize = 0;
-    while i < count {
-        let record = read_record(job, at, i == 0, dot);
-        places[i] = place_of(record.dot);
-        lengths[i] = record.length;
-        weights[i] = record.weight;
-        at = record.next;
-        dot = record.dot;
-        i += 1;
+    let mut place = header.place;
+    let mut rest = records;
+    for i in 0..header.count {
+        let Ok((mark, after)) = read_record(i == 0, place, rest) else {
+            return;
+        };
+        places[i] = mark.place;
+        lengths[i] = mark.length;
+        weights[i] = mark.weight;
+        place = mark.place;
+        rest = after;
     }
 }
 
-// Reads a job into the three mark lists.
-pub fn read(job: &[u8], places: &mut [i16], lengths: &mut [u8], weights: &mut [u16]) -> Read
+// Reads a job into the three mark lists, and gives the count of marks.
+pub fn read(
+    job: &[u8],
+    places: &mut [i16],
+    lengths: &mut [u8],
+    weights: &mut [u16],
+) -> Result<usize, Refusal>
     ensures { ReadContract
         job.now
         (strip places.old lengths.old weights.old)
-        (strip places.new lengths.new weights.new) result }
+        (strip places.new lengths.new weights.new)
+        (read_answer result) }
 {
-    let header = read_header(job);
-    if header.number != 0 {
-        return Read {
-            number: header.number,
-            count: 0,
-        };
-    }
-    let count = header.count;
-    let shortest = smaller(places.len(), smaller(lengths.len(), weights.len()));
-    if shortest < count {
-        return Read {
-            number: LIST_TOO_SHORT,
-            count: 0,
-        };
-    }
-    let number = check_records(job, count, header.dot);
-    if number != 0 {
-        return Read { number, count: 0 };
-    }
-    fill(job, count, header.dot, places, lengths, weights);
-    Read { number: 0, count }
+    let (header, records) = read_header(job)?;
+    let shortest = places.len().min(lengths.len().min(weights.len()));
+    check(header.count <= shortest, Refusal::ListTooShort)?;
+    check_records(header, records)?;
+    fill(header, records, places, lengths, weights);
+    Ok(header.count)
 }

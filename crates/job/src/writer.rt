@@ -1,23 +1,21 @@
-// The job writer: the job's length is computed before a byte is written, so that a refusal changes none.
-ghost use Rattle.std.specs.Prelude.{◌≡◌, cond, ◌+◌, ◌≤◌, ◌<◌, eqb, length};
+// The job writer: the job's length is computed before a byte is written, so that a refusal changes none. It counts a position, where the
+// reader goes over the bytes that are left: a rest that is written to would be lent back by each call, with a clause on what becomes of it.
+ghost use Rattle.std.specs.Prelude.{◌≡◌, ◌+◌, ◌≤◌, ◌<◌, eqb, length, Bool};
 ghost use Rattle.std.proofs.lemmas.List.Edits.{sets};
-ghost use Rattle.geometry.specs.Strip.{strip, most_marks};
-ghost use Rattle.geometry.specs.inner.Place.{place_of_lem};
+ghost use Rattle.geometry.specs.Strip.{lists_of, most_marks};
 ghost use Rattle.job.specs.Number.{bytes_of};
-ghost use Rattle.job.specs.Format.{byte_width, word_width, header_length, record_most};
-ghost use Rattle.job.specs.Encode.{encode_field, encode_map, first_place, header_bytes, records_of, encode};
-ghost use Rattle.job.specs.Calls.{WriteContract};
-ghost use Rattle.job.specs.inner.Step.{row};
+ghost use Rattle.job.specs.Format.{word_width, header_length, record_most};
+ghost use Rattle.job.specs.Encode.{encode_bit, encode_field, encode_map, first_place_lem, header_bytes, records_of, encode};
+ghost use Rattle.job.specs.Calls.{WriteContract, written_answer};
+ghost use Rattle.job.specs.inner.Step.{row_of};
 ghost use Rattle.job.specs.inner.Put.{PutAt, Writable, step_at_lem, bytes_of_record, RecordOf};
 
-use crate::answer::Written;
-use crate::dots::word_of_dot;
-use crate::format::{
-    ABSENT_LENGTH, ABSENT_STEP, ABSENT_WEIGHT, BYTE_WIDTH, HEADER_LENGTH, WORD_WIDTH,
-};
-use geometry::dot::{ZERO_DOT, dot_of};
+use crate::field::Field;
+use crate::format::{ABSENT_STEP, HEADER_LENGTH, WORD_WIDTH};
+use geometry::dot::dot_of;
 use geometry::entry::check_strip;
-use geometry::refusal::LIST_TOO_SHORT;
+use geometry::refusal::{Refusal, check};
+use geometry::strip::Strip;
 
 // The three values of a record. The first mark has no step, which is written as the absent value is.
 #[derive(Clone, Copy)]
@@ -27,62 +25,67 @@ pub struct Record {
     pub weight: u16,
 }
 
-// The dot of the first place, or of place 0 where there are no marks.
-fn first_dot(places: &[i16]) -> u16
-    ensures { place_of_lem result ≡ first_place places.now }
+// The first place, or 0 where there are no marks.
+fn first_place(places: &[i16]) -> i16
+    ensures { result ≡ first_place_lem places.now }
 {
-    if places.len() == 0 {
-        return ZERO_DOT;
-    }
-    dot_of(places[0])
+    places.first().copied().unwrap_or(0)
 }
 
 // The step to mark i, counted from 0.
-fn step_at(places: &[i16], lengths: &[u8], weights: &[u16], i: usize) -> u16
-    requires { Writable (strip places.now lengths.now weights.now) × (i < length places.now) }
-    ensures { result ≡ step_at_lem places.now i }
+fn step_at(strip: Strip, i: usize) -> u16
+    requires { Writable (lists_of strip) × (i < length strip.places.now) }
+    ensures { result ≡ step_at_lem strip.entry.places.now i }
 {
     if i == 0 {
         return ABSENT_STEP;
     }
-    dot_of(places[i]) - dot_of(places[i - 1])
+    dot_of(strip.places[i]) - dot_of(strip.places[i - 1])
 }
 
-fn record_at(places: &[i16], lengths: &[u8], weights: &[u16], i: usize) -> Record
-    requires { Writable (strip places.now lengths.now weights.now) × (i < length places.now) }
-    ensures { RecordOf (strip places.now lengths.now weights.now) i result }
+fn record_at(strip: Strip, i: usize) -> Record
+    requires { Writable (lists_of strip) × (i < length strip.places.now) }
+    ensures { RecordOf (lists_of strip.entry) i result }
 {
     Record {
-        step: step_at(places, lengths, weights, i),
-        length: lengths[i] as u16,
-        weight: weights[i],
+        step: step_at(strip, i),
+        length: strip.lengths[i] as u16,
+        weight: strip.weights[i],
     }
 }
 
-// The length of a field that is written unless it has its absent value.
-fn field_length(width: usize, absent: u16, value: u16) -> usize
-    ensures { (result ≡ length (encode_field (row width absent 0) value)) × (result ≤ width) }
+// Whether a value is the one that a field has if absent, which is not written.
+fn is_absent(field: Field, value: u16) -> bool
+    ensures { result ≡ eqb value (row_of field).absent }
 {
-    if value == absent { 0 } else { width }
+    value == field.absent()
+}
+
+fn field_length(field: Field, value: u16) -> usize
+    ensures { (result ≡ length (encode_field (row_of field) value)) × (result ≤ (row_of field).width) }
+{
+    if is_absent(field, value) {
+        0
+    } else {
+        field.width()
+    }
 }
 
 fn record_length(one: Record) -> usize
     ensures { (result ≡ length (bytes_of_record one)) × (result ≤ record_most) }
 {
-    1 + field_length(WORD_WIDTH, ABSENT_STEP, one.step)
-        + field_length(BYTE_WIDTH, ABSENT_LENGTH, one.length)
-        + field_length(WORD_WIDTH, ABSENT_WEIGHT, one.weight)
+    1 + field_length(Field::Step, one.step)
+        + field_length(Field::Length, one.length)
+        + field_length(Field::Weight, one.weight)
 }
 
-fn job_length(places: &[i16], lengths: &[u8], weights: &[u16]) -> usize
-    requires { Writable (strip places.now lengths.now weights.now) }
-    ensures { result ≡ length (encode (strip places.now lengths.now weights.now)) }
+fn job_length(strip: Strip) -> usize
+    requires { Writable (lists_of strip) }
+    ensures { result ≡ length (encode (lists_of strip.entry)) }
 {
     let mut total = HEADER_LENGTH;
-    let mut i: usize = 0;
-    while i < places.len() {
-        total += record_length(record_at(places, lengths, weights, i));
-        i += 1;
+    for i in 0..strip.places.len() {
+        total += record_length(record_at(strip, i));
     }
     total
 }
@@ -92,8 +95,9 @@ fn put_word(job: &mut [u8], at: usize, value: u16)
     requires { at + word_width ≤ length job.old }
     ensures { job.new ≡ sets job.old at (bytes_of word_width value) }
 {
-    job[at] = (value / 256) as u8;
-    job[at + 1] = (value % 256) as u8;
+    let [high, low] = value.to_be_bytes();
+    job[at] = high;
+    job[at + 1] = low;
 }
 
 // Writes the header: the count of marks and the first place.
@@ -102,39 +106,44 @@ fn put_header(places: &[i16], job: &mut [u8])
     ensures { job.new ≡ sets job.old 0 (header_bytes places.now) }
 {
     put_word(job, 0, places.len() as u16);
-    put_word(job, WORD_WIDTH, word_of_dot(first_dot(places)));
+    put_word(job, WORD_WIDTH, first_place(places).cast_unsigned());
 }
 
 // Writes a field unless it has its absent value, and gives the position after it.
-fn put_field(job: &mut [u8], at: usize, width: usize, absent: u16, value: u16) -> usize
-    requires { (byte_width ≤ width) × (width ≤ word_width) × (at + length (encode_field (row width absent 0) value) ≤ length job.old) }
-    ensures { PutAt job.old at (encode_field (row width absent 0) value) result job.new }
+fn put_field(job: &mut [u8], at: usize, field: Field, value: u16) -> usize
+    requires { at + length (encode_field (row_of field) value) ≤ length job.old }
+    ensures { PutAt job.old at (encode_field (row_of field) value) result job.new }
 {
-    if value == absent {
+    if is_absent(field, value) {
         return at;
     }
-    if width == BYTE_WIDTH {
-        job[at] = (value % 256) as u8;
-        return at + BYTE_WIDTH;
+    if field.width() == WORD_WIDTH {
+        put_word(job, at, value);
+        return at + WORD_WIDTH;
     }
-    put_word(job, at, value);
-    at + WORD_WIDTH
+    job[at] = (value % 256) as u8;
+    at + 1
 }
 
 // A field's bit in the map byte, which stands unless the field has its absent value.
-fn field_bit(worth: u8, absent: u16, value: u16) -> u8
-    ensures { (result ≡ cond (eqb value absent) 0 worth) × (result ≤ worth) }
+fn field_bit(field: Field, value: u16) -> u8
+    ensures { (result ≡ encode_bit (row_of field) value) × (result ≤ 4) }
 {
-    if value == absent { 0 } else { worth }
+    if is_absent(field, value) {
+        0
+    } else {
+        field.bit()
+    }
 }
 
 // The map byte of a record.
-fn map_byte(step: u16, length: u16, weight: u16) -> u8
-    ensures { result ≡ encode_map step length weight }
+#[tactic(auto, unfolding(crate::specs::Encode::encode_map))]
+fn map_byte(one: Record) -> u8
+    ensures { result ≡ encode_map one.step one.length one.weight }
 {
-    field_bit(1, ABSENT_STEP, step)
-        + field_bit(2, ABSENT_LENGTH, length)
-        + field_bit(4, ABSENT_WEIGHT, weight)
+    field_bit(Field::Step, one.step)
+        + field_bit(Field::Length, one.length)
+        + field_bit(Field::Weight, one.weight)
 }
 
 // Writes a record and gives the position after it.
@@ -142,47 +151,31 @@ fn put_record(job: &mut [u8], at: usize, one: Record) -> usize
     requires { at + length (bytes_of_record one) ≤ length job.old }
     ensures { PutAt job.old at (bytes_of_record one) result job.new }
 {
-    job[at] = map_byte(one.step, one.length, one.weight);
-    let after_step = put_field(job, at + 1, WORD_WIDTH, ABSENT_STEP, one.step);
-    let after_length = put_field(job, after_step, BYTE_WIDTH, ABSENT_LENGTH, one.length);
-    put_field(job, after_length, WORD_WIDTH, ABSENT_WEIGHT, one.weight)
+    job[at] = map_byte(one);
+    let after_step = put_field(job, at + 1, Field::Step, one.step);
+    let after_length = put_field(job, after_step, Field::Length, one.length);
+    put_field(job, after_length, Field::Weight, one.weight)
 }
 
-fn put_records(places: &[i16], lengths: &[u8], weights: &[u16], job: &mut [u8])
-    requires { Writable (strip places.now lengths.now weights.now)
-        × (header_length + length (records_of (strip places.now lengths.now weights.now)) ≤ length job.old) }
-    ensures { job.new ≡ sets job.old header_length
-        (records_of (strip places.now lengths.now weights.now)) }
+fn put_records(strip: Strip, job: &mut [u8])
+    requires { Writable (lists_of strip)
+        × (header_length + length (records_of (lists_of strip)) ≤ length job.old) }
+    ensures { job.new ≡ sets job.old header_length (records_of (lists_of strip.entry)) }
 {
     let mut at = HEADER_LENGTH;
-    let mut i: usize = 0;
-    while i < places.len() {
-        at = put_record(job, at, record_at(places, lengths, weights, i));
-        i += 1;
+    for i in 0..strip.places.len() {
+        at = put_record(job, at, record_at(strip, i));
     }
 }
 
-// Writes the marks as a job.
-pub fn write(places: &[i16], lengths: &[u8], weights: &[u16], job: &mut [u8]) -> Written
-    ensures { WriteContract
-        (strip places.now lengths.now weights.now) job.old
-        job.new result }
+// Writes the marks as a job, and gives its length.
+pub fn write(strip: Strip, job: &mut [u8]) -> Result<usize, Refusal>
+    ensures { WriteContract (lists_of strip.entry) job.old job.new (written_answer result) }
 {
-    let number = check_strip(places, lengths, weights);
-    if number != 0 {
-        return Written { number, length: 0 };
-    }
-    let total = job_length(places, lengths, weights);
-    if job.len() < total {
-        return Written {
-            number: LIST_TOO_SHORT,
-            length: 0,
-        };
-    }
-    put_header(places, job);
-    put_records(places, lengths, weights, job);
-    Written {
-        number: 0,
-        length: total,
-    }
+    check_strip(strip)?;
+    let total = job_length(strip);
+    check(total <= job.len(), Refusal::ListTooShort)?;
+    put_header(strip.places, job);
+    put_records(strip, job);
+    Ok(total)
 }

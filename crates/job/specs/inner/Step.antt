@@ -1,66 +1,43 @@
--- What one step of the reader hands back, beside what the definitions give: a number, and values where the number is 0.
-use Rattle.std.specs.Prelude.{ℕ, ◌≤◌, ◌≡◌, true, ◌&&◌, List, leb, ℤ, length, drop}
+-- How what the reader's steps hand over is seen by the definitions, and what filling the lists takes and leaves.
+use Rattle.std.specs.Prelude.{ℕ, ◌≤◌, ◌≡◌, true, List}
+use Rattle.std.specs.Borrow.{Bor}
 use Rattle.geometry.specs.Strip.{Strip}
-use Rattle.geometry.specs.Refusal.{refusal_number, accepted}
-use Rattle.geometry.specs.inner.Place.{place_of_lem, most_dot}
-use Rattle.job.specs.Outcome.{Outcome, given, refusal, verdict_of}
-use Rattle.job.specs.Format.{header_length, Field}
-use Rattle.job.specs.Decode.{Front, SignedMark, Header, decode_records}
+use Rattle.geometry.specs.Refusal.{accepted}
+use Rattle.job.specs.Outcome.{Outcome, verdict_of}
+use Rattle.job.specs.Format.{Field, step_field, length_field, weight_field}
+use Rattle.job.specs.Decode.{Front, front, SignedMark, mark_of, Header, header_of, decode_records}
 use Rattle.job.specs.Calls.{left_as, shortest}
-use Rattle.job.specs.declared.field.FieldRead.{FieldRead}
-use Rattle.job.specs.declared.reader.HeaderRead.{HeaderRead}
-use Rattle.job.specs.declared.record.PlaceRead.{PlaceRead}
-use Rattle.job.specs.declared.record.RecordRead.{RecordRead}
+use Rattle.job.specs.declared.field.Field as coded
+use Rattle.job.specs.declared.field.Field.TheVariants.{Step, Length, Weight}
+use Rattle.job.specs.declared.record.Mark.{Mark}
+use Rattle.job.specs.declared.reader.Header as coded_header
 
--- a number that stands for an outcome, with what holds of a value that is given
-abbrev pub Reports : {A : Type 0} → ℕ → Outcome A → (A → Type 0) → Type 0
-Reports n (given a) P = (n ≡ 0) × P a
-Reports n (refusal r) P = n ≡ refusal_number r
+-- the row of the table for each of the program's fields
+abbrev pub row_of : coded.Field → Field
+row_of Step = step_field
+row_of Length = length_field
+row_of Weight = weight_field
 
--- a field by its width, its absent value and its greatest value
-abbrev pub row : ℕ → ℕ → ℕ → Field
-row w a most = record { bit = 0; width = w; absent = a; in_range = λ v. leb 1 v && leb v most }
+-- a value that was read, and the bytes after it
+abbrev pub front_of : {A : Type 0} → A × Bor (List ℕ) → Front A
+front_of x = front x.0 x.1.now
 
--- a field that was read, and the position after it
-pub record FieldAt (job : List ℕ) (most : ℕ) (r : FieldRead) (x : Front ℕ) : Type 0 where
-  pub value-is : x.value ≡ r.value
-  pub rest-is : x.rest ≡ drop r.next job
-  pub within : r.next ≤ length job
-  pub bounded : r.value ≤ most
-
--- the place of a mark that was read, and the position after the step
-pub record PlaceAt (job : List ℕ) (r : PlaceRead) (x : Front ℤ) : Type 0 where
-  pub place_is : x.value ≡ place_of_lem r.dot
-  pub rest-is : x.rest ≡ drop r.next job
-  pub within : r.next ≤ length job
-  pub high : r.dot ≤ most_dot
-
--- a record that was read, and the position after it
-pub record RecordAt (job : List ℕ) (r : RecordRead) (x : Front SignedMark) : Type 0 where
-  pub place_is : x.value.place ≡ place_of_lem r.dot
-  pub length-is : x.value.label_length ≡ r.length
-  pub weight_is : x.value.weight ≡ r.weight
-  pub rest-is : x.rest ≡ drop r.next job
-  pub within : r.next ≤ length job
-  pub high : r.dot ≤ most_dot
+-- a mark that was read, and the bytes after it
+abbrev pub mark_front : Mark × Bor (List ℕ) → Front SignedMark
+mark_front x = front (mark_of x.0.place x.0.length x.0.weight) x.1.now
 
 -- a header that was read
-pub record HeaderAt (job : List ℕ) (r : HeaderRead) (x : Header) : Type 0 where
-  pub count-is : x.count ≡ r.count
-  pub place_is : x.place ≡ place_of_lem r.dot
-  pub high : r.dot ≤ most_dot
-  pub whole : header_length ≤ length job
+abbrev pub header_view : coded_header.Header × Bor (List ℕ) → Header
+header_view x = header_of x.0.count x.0.place
 
--- what the records behind the header say, when the first place has this dot
-abbrev pub marks_behind : List ℕ → ℕ → ℕ → Outcome Strip
-marks_behind job count d = decode_records count true (place_of_lem d) (drop header_length job)
+-- what the records behind a header say
+abbrev pub marks_behind : coded_header.Header → List ℕ → Outcome Strip
+marks_behind h records = decode_records h.count true h.place records
 
 -- records that pass every check, and lists that hold their marks
-pub record Fillable (job : List ℕ) (count d : ℕ) (lent : Strip) : Type 0 where
-  pub whole : header_length ≤ length job
-  pub high : d ≤ most_dot
+pub record Fillable (found : Outcome Strip) (count : ℕ) (lent : Strip) : Type 0 where
   pub room : count ≤ shortest lent
-  pub all-good : verdict_of (marks_behind job count d) ≡ accepted
+  pub all-good : verdict_of found ≡ accepted
 
 -- the three lists after they were filled with the marks of those records
 pub record Filled (found : Outcome Strip) (entry exit : Strip) : Type 0 where

@@ -1,29 +1,29 @@
--- `job::reader::read_header` meets its contract: each return stands at the first check that is not passed.
-use mathlib.Core.Path.{◌≡◌, refl, sym, ◌∙◌, ap}
-use mathlib.Core.Bool.{true}
+-- `job::reader::read_header` meets its contract: the two words are the header's own, and the check on them decides.
+use mathlib.Core.Path.{◌≡◌, sym, ◌∙◌}
 use native.Mathlib.Omega.{arith}
-use Rattle.geometry.specs.inner.Place.{place_of_lem}
-use Rattle.job.specs.Number.{signed}
-use Rattle.job.specs.Decode.{header_place, header_in_range_lem}
-use Rattle.job.proofs.HeaderChecks.{header-short, header-out, header-good, header-high}
+use mir.Syntax.{w16}
+use mir.Val.{to_z, of_z}
+use Rattle.geometry.proofs.Dots.{fetched}
+use Rattle.job.specs.Decode.{header_count, header_place}
+use Rattle.job.proofs.HeaderChecks.{count-word, place-word, header-out, header-good}
 use Rattle.job.proofs.reader.read_header.Goals as goal
 
-pub returns-then-job-lt-HEADER_LENGTH : goal.returns-then-job-lt-HEADER_LENGTH
-returns-then-job-lt-HEADER_LENGTH c = rw (header-short c.args.job.now (omega arith)) c.no_header.ensures
+pub returns-then-not-header_in_range-clause-header : goal.returns-then-not-header_in_range-clause-header
+returns-then-not-header_in_range-clause-header c =
+    let job = c.args.job.now in
+    let n = c.from_be_bytes-count in
+    let count : header_count job ≡ n.result = rw (n.ensures, c.split_at.ensures.front) (count-word job (omega arith)) in
+    let p = c.from_be_bytes-place in
+    let place : header_place job ≡ to_z w16 (of_z w16 p.result) =
+    rw (fetched p.result p.type_inv, p.ensures, c.split_at.ensures.front) (place-word job (omega arith) (λ i. omega (arith, c.type_inv.job i))) in
+    sym (header-out job _ _ (omega arith) count place (sym c.header_in_range.ensures ∙ c.if-not-header_in_range.true))
 
-pub returns-then-not-header_in_range : goal.returns-then-not-header_in_range
-returns-then-not-header_in_range c =
-    let n = c.number_at-count.result in
-    let d = c.dot_of_word-dot.result in
-    let place : header_place c.args.job.now ≡ place_of_lem d = ap signed (sym c.number_at.ensures) ∙ sym c.dot_of_word-dot.ensures in
-    rw (header-out c.args.job.now n d (omega arith) (sym c.number_at-count.ensures) place
-    (sym c.header_in_range.ensures ∙ c.if-not-header_in_range.true)) c.no_header-then-not-header_in_range.ensures
-
-pub returns : goal.returns
-returns c =
-    let n = c.number_at-count.result in
-    let d = c.dot_of_word-dot.result in
-    let place : header_place c.args.job.now ≡ place_of_lem d = ap signed (sym c.number_at.ensures) ∙ sym c.dot_of_word-dot.ensures in
-    let good : header_in_range_lem n (place_of_lem d) ≡ true = sym c.header_in_range.ensures ∙ c.if-not-header_in_range.false in
-    rw (header-good c.args.job.now n d (omega arith) (sym c.number_at-count.ensures) place good)
-    (refl, record { count-is = refl; place_is = refl; high = header-high n d good; whole = omega arith })
+pub returns-clause-header : goal.returns-clause-header
+returns-clause-header c =
+    let job = c.args.job.now in
+    let n = c.from_be_bytes-count in
+    let count : header_count job ≡ n.result = rw (n.ensures, c.split_at.ensures.front) (count-word job (omega arith)) in
+    let p = c.from_be_bytes-place in
+    let place : header_place job ≡ to_z w16 (of_z w16 p.result) =
+    rw (fetched p.result p.type_inv, p.ensures, c.split_at.ensures.front) (place-word job (omega arith) (λ i. omega (arith, c.type_inv.job i))) in
+    sym (header-good job _ _ (omega arith) count place (sym c.header_in_range.ensures ∙ c.if-not-header_in_range.false))

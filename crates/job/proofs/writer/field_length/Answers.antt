@@ -1,17 +1,16 @@
 -- `job::writer::field_length` meets its contract.
-use mathlib.Core.Path.{refl, sym}
+use mathlib.Core.Path.{refl, sym, ◌∙◌}
 use native.Mathlib.Omega.{arith}
-use Rattle.job.specs.inner.Step.{row}
+use Rattle.job.specs.Encode.{encode_field}
+use Rattle.job.specs.inner.Step.{row_of}
 use Rattle.job.proofs.Numbers.{bytes-length}
-use Rattle.job.proofs.RecordBytes.{field-none, field-some}
 use Rattle.job.proofs.writer.field_length.Goals as goal
 
-pub returns-then-value-absent : goal.returns-then-value-absent
-returns-then-value-absent c =
-    let a = c.args in
-    (rw (field-none (row a.width a.absent 0) a.value (omega arith)) refl, omega arith)
+pub returns-then-is_absent : goal.returns-then-is_absent
+unfolding encode_field
+returns-then-is_absent c = (rw (← c.is_absent.ensures, c.if-is_absent.true) refl, omega arith)
 
-pub returns-else-value-absent : goal.returns-else-value-absent
-returns-else-value-absent c =
-    let a = c.args in
-    (rw (field-some (row a.width a.absent 0) a.value (omega arith)) (sym (bytes-length a.width a.value)), omega arith)
+pub returns-else-is_absent : goal.returns-else-is_absent
+unfolding encode_field
+returns-else-is_absent c =
+    (rw (← c.is_absent.ensures, c.if-is_absent.false) (c.width.ensures ∙ sym (bytes-length (row_of c.args.field).width c.args.value)), omega arith)

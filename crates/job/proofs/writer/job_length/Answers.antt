@@ -2,26 +2,25 @@
 use mathlib.Core.Path.{◌≡◌, refl}
 use native.Mathlib.Omega.{arith}
 use lib.ListN.{length}
-use Rattle.geometry.specs.Strip.{strip, most_marks}
+use Rattle.geometry.specs.Strip.{lists_of, most_marks}
 use Rattle.geometry.proofs.Accepted.{entry-accepted}
 use Rattle.job.proofs.RecordsToWrite.{records_from, size-next, none_from, encode-size}
 use Rattle.job.proofs.writer.job_length.Goals as goal
 
 pub loop-i-init : goal.loop-i-init
-loop-i-init c = record { counted = omega arith; small = omega arith; together = refl }
+loop-i-init c = record { small = omega arith; together = refl }
 
 pub overflow_add-total : goal.overflow_add-total
 overflow_add-total c =
-    let marks = strip c.args.places.now c.args.lengths.now c.args.weights.now in
+    let marks = lists_of c.args.strip in
     omega (arith, (entry-accepted most_marks marks c.requires).few)
 
 pub loop-i-preserved : goal.loop-i-preserved
 loop-i-preserved c =
-    let marks = strip c.args.places.now c.args.lengths.now c.args.weights.now in
+    let marks = lists_of c.args.strip in
     let l = c.loop-i in
     let n = c.record_length-total in
     record {
-      counted = omega arith;
       small = omega arith;
       together = size-next marks c.requires l.i (omega arith) c.record_at.result c.record_at.ensures l.total
           n.result l.invariant.together n.ensures.0;
@@ -29,7 +28,7 @@ loop-i-preserved c =
 
 pub returns : goal.returns
 returns c =
-    let marks = strip c.args.places.now c.args.lengths.now c.args.weights.now in
+    let marks = lists_of c.args.strip in
     let l = c.loop-i in
     let none : length (records_from marks l.i) ≡ 0 = rw (none_from marks l.i (omega arith)) refl in
     omega (arith, encode-size marks, l.invariant.together)

@@ -29,7 +29,7 @@ pub bounds-job-at : goal.bounds-job-at
 bounds-job-at c = omega (arith, size c.args.one)
 
 pub put_field-after_step-requires : goal.put_field-after_step-requires
-put_field-after_step-requires c = (omega arith, omega arith, simp length-set (omega (arith, size c.args.one)))
+put_field-after_step-requires c = simp length-set (omega (arith, size c.args.one))
 
 pub put_field-after_length-requires : goal.put_field-after_length-requires
 put_field-after_length-requires c =
@@ -37,7 +37,7 @@ put_field-after_length-requires c =
     let q : PutAt a.job.now a.at (up_to_step a.one) c.put_field-after_step.result c.put_field-after_step.new.job =
     put_two (map a.one ∷ []) (step_bytes a.one.step) (put_byte a.job.now a.at (map a.one))
     (rw c.map_byte.ensures at c.put_field-after_step.ensures) in
-    (omega arith, omega arith, omega (arith, size a.one, q.next-is, put-length q))
+    omega (arith, size a.one, q.next-is, put-length q)
 
 pub put_field-requires : goal.put_field-requires
 put_field-requires c =
@@ -46,11 +46,8 @@ put_field-requires c =
     put_two (map a.one ∷ []) (step_bytes a.one.step) (put_byte a.job.now a.at (map a.one))
     (rw c.map_byte.ensures at c.put_field-after_step.ensures) in
     let q : PutAt a.job.now a.at (up_to_length a.one) c.put_field-after_length.result c.put_field-after_length.new.job =
-    put_two (up_to_step a.one) (length_bytes a.one.length) p c.put_field-after_length.ensures in (
-      omega arith,
-      omega arith,
-      omega (arith, size a.one, q.next-is, length-append (up_to_step a.one) (length_bytes a.one.length), put-length q),
-    )
+    put_two (up_to_step a.one) (length_bytes a.one.length) p c.put_field-after_length.ensures in
+    omega (arith, size a.one, q.next-is, length-append (up_to_step a.one) (length_bytes a.one.length), put-length q)
 
 pub returns : goal.returns
 returns c =

@@ -1,28 +1,24 @@
 -- `job::writer::put_records` meets its contract: what is put so far and the records to come are together the whole.
 use mathlib.Core.Path.{refl}
 use native.Mathlib.Omega.{arith}
-use Rattle.geometry.specs.Strip.{strip}
+use Rattle.geometry.specs.Strip.{lists_of}
 use Rattle.job.proofs.RecordsToWrite.{putting-next, putting-ends, own_room}
 use Rattle.job.proofs.writer.put_records.Goals as goal
 
 pub loop-i-init : goal.loop-i-init
-loop-i-init c = record { counted = omega arith; putting = record { as_long = refl; room = c.requires.1; stores = refl } }
+loop-i-init c = record { as_long = refl; room = c.requires.1; stores = refl }
 
 pub put_record-at-requires : goal.put_record-at-requires
 put_record-at-requires c =
-    let marks = strip c.args.places.now c.args.lengths.now c.args.weights.now in
-    own_room marks c.requires.0 c.loop-i.i (omega arith) c.record_at.result c.record_at.ensures c.loop-i.invariant.putting
+    let marks = lists_of c.args.strip in
+    own_room marks c.requires.0 c.loop-i.i (omega arith) c.record_at.result c.record_at.ensures c.loop-i.invariant
 
 pub loop-i-preserved : goal.loop-i-preserved
 loop-i-preserved c =
-    let marks = strip c.args.places.now c.args.lengths.now c.args.weights.now in
-    record {
-      counted = omega arith;
-      putting = putting-next marks c.requires.0 c.loop-i.i (omega arith) c.record_at.result c.record_at.ensures
-          c.loop-i.invariant.putting c.put_record-at.ensures;
-    }
+    let marks = lists_of c.args.strip in
+    putting-next marks c.requires.0 c.loop-i.i (omega arith) c.record_at.result c.record_at.ensures c.loop-i.invariant c.put_record-at.ensures
 
 pub returns : goal.returns
 returns c =
-    let marks = strip c.args.places.now c.args.lengths.now c.args.weights.now in
-    putting-ends marks c.loop-i.i _ _ c.loop-i.at (omega arith) c.loop-i.invariant.putting
+    let marks = lists_of c.args.strip in
+    putting-ends marks c.loop-i.i _ _ c.loop-i.at (omega arith) c.loop-i.invariant

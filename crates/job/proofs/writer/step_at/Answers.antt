@@ -1,9 +1,8 @@
 -- `job::writer::step_at` meets its contract: the step is the difference of the dots, and the mark before has the smaller one.
-use mathlib.Core.Path.{◌≡◌, refl, ◌∙◌, ap}
+use mathlib.Core.Path.{◌≡◌, ◌∙◌, ap}
 use mathlib.Core.List.{List}
 use Prim.Native.Nat.{ℕ, suc, ◌-◌, ◌<◌}
 use native.Mathlib.Omega.{arith}
-use borrow.Author.Tests.{ne_eqb}
 use lib.IntN.{ℤ, pos}
 use lib.ListN.{length, get_or}
 use Rattle.geometry.specs.Dot.{dot}
@@ -21,23 +20,10 @@ rises ps ls ws i w h k =
     let next : suc (i - 1) ≡ i = omega arith in
     rw next at (rising-at ps (i - 1) good.places-good good.places-rise (omega arith))
 
-pub returns-then-i-eq0 : goal.returns-then-i-eq0
-returns-then-i-eq0 c =
-    let first : c.args.i ≡ 0 = omega arith in
-    rw first refl
-
 pub overflow_sub-result : goal.overflow_sub-result
 overflow_sub-result c =
     let a = c.args in
-    let ps = a.places.now in
-    let here = c.dot_of.ensures ∙ ap dot (fetched (get_or ps a.i (pos 0)) c.dot_of-arg-1.given) in
-    let before = c.dot_of-2.ensures ∙ ap dot (fetched (get_or ps (a.i - 1) (pos 0)) c.dot_of-arg-2-1.given) in
-    omega (arith, here, before, rises ps a.lengths.now a.weights.now a.i c.requires.0 (omega arith) c.requires.1)
-
-pub returns : goal.returns
-returns c =
-    let a = c.args in
-    let ps = a.places.now in
-    let here = c.dot_of.ensures ∙ ap dot (fetched (get_or ps a.i (pos 0)) c.dot_of-arg-1.given) in
-    let before = c.dot_of-2.ensures ∙ ap dot (fetched (get_or ps (a.i - 1) (pos 0)) c.dot_of-arg-2-1.given) in
-    rw (ne_eqb a.i 0 (omega arith)) (omega (arith, here, before))
+    let ps = a.strip.places.now in
+    let here = c.dot_of.ensures ∙ ap dot (fetched (get_or ps a.i (pos 0)) (omega arith)) in
+    let before = c.dot_of-2.ensures ∙ ap dot (fetched (get_or ps (a.i - 1) (pos 0)) (omega arith)) in
+    omega (arith, here, before, rises ps a.strip.lengths.now a.strip.weights.now a.i c.requires.0 (omega arith) c.requires.1)
