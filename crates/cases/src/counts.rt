@@ -4,8 +4,9 @@ ghost use Rattle.geometry.specs.Strip.{most_marks};
 
 use crate::passes;
 use crate::passes::{TOO_MANY, Wanted};
-use crate::strip::Strip;
-use crate::tally::Tally;
+use agreed::lists::first;
+use agreed::tally::Tally;
+use geometry::strip::Strip;
 
 #[derive(Clone, Copy)]
 struct Mark {
@@ -21,34 +22,27 @@ const GOOD: Mark = Mark {
     weight: 1,
 };
 
-// A mark at each 15th dot from −30,000 on, which makes 4,001 of them up to 30,000.
-fn spaced_places() -> [i16; TOO_MANY] {
-    let mut places = [0; TOO_MANY];
-    for (i, place) in places.iter_mut().enumerate() {
-        *place = geometry::dot::place_of((2768 + 15 * i) as u16);
+// Marks at each 15th dot from −30,000 on, which makes 4,001 of them up to 30,000.
+fn spaced() -> [Mark; TOO_MANY] {
+    let mut marks = [GOOD; TOO_MANY];
+    for (i, mark) in marks.iter_mut().enumerate() {
+        mark.place = geometry::dot::place_of((2768 + 15 * i) as u16);
     }
-    places
+    marks
 }
 
-// A list with this element for the last of the first so many.
-fn with_last<T: Copy>(mut list: [T; TOO_MANY], marks: usize, last: T) -> [T; TOO_MANY]
-    requires { (1 ≤ marks) × (marks ≤ most_marks + 1) }
+// The first so many of these marks, but for the last one.
+fn first_give(tally: &mut Tally, case: u32, count: usize, last: Mark, wanted: Wanted)
+    requires { count ≤ most_marks + 1 }
 {
-    list[marks - 1] = last;
-    list
-}
-
-// The first so many of the 4,001 marks, with labels of 10 dots and weight 1, but for the last one.
-fn first_give(tally: &mut Tally, case: u32, marks: usize, last: Mark, wanted: Wanted)
-    requires { (1 ≤ marks) × (marks ≤ most_marks + 1) }
-{
-    let places = with_last(spaced_places(), marks, last.place);
-    let lengths = with_last([10; TOO_MANY], marks, last.length);
-    let weights = with_last([1; TOO_MANY], marks, last.weight);
+    let mut marks = spaced();
+    if let Some(end) = first(&mut marks, count).last_mut() {
+        *end = last;
+    }
     let strip = Strip {
-        places: &places[..marks],
-        lengths: &lengths[..marks],
-        weights: &weights[..marks],
+        places: &marks.map(|mark| mark.place)[..count],
+        lengths: &marks.map(|mark| mark.length)[..count],
+        weights: &marks.map(|mark| mark.weight)[..count],
     };
     passes::calls_give(tally, case, strip, wanted);
 }
@@ -74,12 +68,12 @@ const BAD: [Mark; 4] = [
 ];
 
 // The last mark good, then each bad one in its place.
-fn last_gives(tally: &mut Tally, case: u32, marks: usize, good: Wanted, bad: Result<(), u8>)
-    requires { (1 ≤ marks) × (marks ≤ most_marks + 1) }
+fn last_gives(tally: &mut Tally, case: u32, count: usize, good: Wanted, bad: Result<(), u8>)
+    requires { count ≤ most_marks + 1 }
 {
-    first_give(tally, case, marks, GOOD, good);
+    first_give(tally, case, count, GOOD, good);
     for (case, last) in (case..).skip(1).zip(BAD) {
-        first_give(tally, case, marks, last, passes::all(bad));
+        first_give(tally, case, count, last, passes::all(bad));
     }
 }
 

@@ -1,9 +1,9 @@
 // Strips on which several marks are left out, and the best pass must list them heaviest first.
 use crate::passes;
-use crate::passes::Choice;
-use crate::strip::Strip;
-use crate::tally::Tally;
+use agreed::tally::Tally;
 use agreed::{left_out, lists};
+use best::choice::Choice;
+use geometry::strip::Strip;
 
 // The best pass must give this sum and leave out these three marks, in this order, and write no fourth.
 fn leaves_out(tally: &mut Tally, case: u32, strip: Strip, sum: u32, [a, b, c]: [u16; 3]) {

@@ -1,7 +1,7 @@
 // The longest labels at both ends of the coordinates, at the widest gap and at gap 0: the full pass's left edges and reaches at their bounds.
 use crate::passes;
-use crate::strip::Strip;
-use crate::tally::Tally;
+use agreed::tally::Tally;
+use geometry::strip::Strip;
 
 // The places of four marks and a gap, with the positions of full.
 type FourMarks<'a> = (u32, &'a [i16; 4], u8, Result<&'a [u8], u8>);

@@ -1,10 +1,10 @@
 // The gap: document 01's strips 7, 8, 9 and 11 with a clear dot between neighbours, strips at the widest gap, and gaps that are too wide
 // beside each other refusal of the checks on entry.
 use crate::passes::TOO_MANY;
-use crate::strip::Strip;
-use crate::tally::Tally;
 use crate::worked::Worked;
 use crate::{passes, worked};
+use agreed::tally::Tally;
+use geometry::strip::Strip;
 
 // At gap 1 mark 3 of strip 7 no longer leaves room above for the mark at 12, but mark 2 does; at 11 neither does, and one mark goes
 // without a label. Where labels slide, each side has two of the first four; the second of them begins at 1 at the least, and with the gap

@@ -1,33 +1,29 @@
 // Job bytes: strip 14, strip 11's job with each of its truncations, and each boundary of the reader and the writer.
-use crate::lists::first;
 use crate::passes;
-use crate::strip::Strip;
-use crate::tally::Tally;
+use agreed::lists::first;
+use agreed::tally::Tally;
+use geometry::strip::Strip;
 
 // Strip 11.
 pub const STRIP11: [u8; 26] =
     *b"\x00\x05\x00\x00\x06\x0a\x00\x09\x06\x0a\x00\x02\x06\x0a\x00\x09\x06\x0a\x00\x09\x07\x00\x07\x0a\x00\x09";
 
 // How many marks a job has, read into lists of which so many places, lengths and weights are lent.
-fn read(job: &[u8], [places, lengths, weights]: [usize; 3]) -> Result<u64, u8> {
-    let got = job::reader::read(
+fn read(job: &[u8], [places, lengths, weights]: [usize; 3]) -> Result<usize, u8> {
+    job::reader::read(
         job,
         first(&mut [0; 8], places),
         first(&mut [0; 8], lengths),
         first(&mut [0; 8], weights),
-    );
-    if got.number == 0 {
-        Ok(got.count as u64)
-    } else {
-        Err(got.number)
-    }
+    )
+    .map_err(u8::from)
 }
 
 // Lists for 8 marks.
 const ROOM: [usize; 3] = [8; 3];
 
 // A job with its count of marks.
-type Job<'a> = (u32, &'a [u8], Result<u64, u8>);
+type Job<'a> = (u32, &'a [u8], Result<usize, u8>);
 
 fn read_gives(tally: &mut Tally, cases: &[Job]) {
     for &(case, job, wanted) in cases {

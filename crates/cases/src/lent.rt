@@ -1,7 +1,7 @@
 // Answer lists and work areas that are too short by one, or just long enough, for a strip of three marks; 12 comes before 9 and 10.
-use crate::lists::first;
 use crate::passes;
-use crate::tally::Tally;
+use agreed::lists::first;
+use agreed::tally::Tally;
 
 const PLACES: [i16; 3] = [0, 1, 2];
 

@@ -9,21 +9,20 @@ mod gaps;
 mod jobs;
 mod lent;
 mod listings;
-mod lists;
 mod passes;
 mod ranges;
-mod strip;
-mod tally;
 mod worked;
 
+use agreed::tally;
+
 fn main() {
-    tally::group(b"worked strips", worked::worked);
-    tally::group(b"ranges", ranges::ranges);
-    tally::group(b"counts of marks", counts::counts);
-    tally::group(b"lent memory", lent::lent);
-    tally::group(b"gaps", gaps::gaps);
-    tally::group(b"ends of the coordinates", ends::ends);
-    tally::group(b"job bytes", jobs::jobs);
-    tally::group(b"left-out lists", crowds::crowds);
-    tally::group(b"listings", listings::listings);
+    tally::group("worked strips", worked::worked);
+    tally::group("ranges", ranges::ranges);
+    tally::group("counts of marks", counts::counts);
+    tally::group("lent memory", lent::lent);
+    tally::group("gaps", gaps::gaps);
+    tally::group("ends of the coordinates", ends::ends);
+    tally::group("job bytes", jobs::jobs);
+    tally::group("left-out lists", crowds::crowds);
+    tally::group("listings", listings::listings);
 }

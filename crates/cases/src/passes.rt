@@ -1,31 +1,12 @@
 // What each pass gives for a strip and a gap, and what the writer gives for a strip; and strips for which they must give one and the same.
-use crate::lists::is_written;
-use crate::strip::Strip;
-use crate::tally::Tally;
-use agreed::lists::UNWRITTEN;
+use agreed::lists::{UNWRITTEN, is_written};
+use agreed::tally::Tally;
+use best::choice::Choice;
+use geometry::strip::Strip;
 
-// A sum of weights, and a count of marks that are left out.
-#[derive(Clone, Copy)]
-pub struct Choice {
-    pub sum: u32,
-    pub count: usize,
-}
-
-// An answer that is a number alone.
-fn done(number: u8) -> Result<(), u8> {
-    if number == 0 { Ok(()) } else { Err(number) }
-}
-
+// The calls, each with the number of its refusal.
 pub fn full(strip: Strip, gap: u8, positions: &mut [u8], work: &mut [i16]) -> Result<(), u8> {
-    let number = full::full(
-        strip.places,
-        strip.lengths,
-        strip.weights,
-        gap,
-        positions,
-        work,
-    );
-    done(number)
+    full::full(strip, gap, positions, work).map_err(u8::from)
 }
 
 pub fn slide(
@@ -35,16 +16,7 @@ pub fn slide(
     edges: &mut [i16],
     work: &mut [u16],
 ) -> Result<(), u8> {
-    let number = slide::slide(
-        strip.places,
-        strip.lengths,
-        strip.weights,
-        gap,
-        sides,
-        edges,
-        work,
-    );
-    done(number)
+    slide::slide(strip, gap, sides, edges, work).map_err(u8::from)
 }
 
 pub fn best(
@@ -54,27 +26,12 @@ pub fn best(
     left_out: &mut [u16],
     work: &mut [u32],
 ) -> Result<Choice, u8> {
-    let got = best::best(
-        strip.places,
-        strip.lengths,
-        strip.weights,
-        gap,
-        positions,
-        left_out,
-        work,
-    );
-    done(got.number)?;
-    Ok(Choice {
-        sum: got.sum,
-        count: got.count,
-    })
+    best::best(strip, gap, positions, left_out, work).map_err(u8::from)
 }
 
 // How many bytes the job of a strip has.
-pub fn write(strip: Strip, job: &mut [u8]) -> Result<u64, u8> {
-    let got = job::writer::write(strip.places, strip.lengths, strip.weights, job);
-    done(got.number)?;
-    Ok(got.length as u64)
+pub fn write(strip: Strip, job: &mut [u8]) -> Result<usize, u8> {
+    job::writer::write(strip, job).map_err(u8::from)
 }
 
 // One mark more than any pass takes.
@@ -108,7 +65,7 @@ pub fn any_best(strip: Strip, gap: u8) -> Result<Choice, u8> {
     )
 }
 
-fn any_write(strip: Strip) -> Result<u64, u8> {
+fn any_write(strip: Strip) -> Result<usize, u8> {
     write(strip, &mut [0; ANY_JOB])
 }
 
@@ -151,8 +108,8 @@ pub fn full_gives(tally: &mut Tally, case: u32, strip: Strip, gap: u8, wanted: R
 // Two comparisons: of the sum of weights, and of the count of left-out marks; both are 0 at a refusal.
 pub fn same_choice(tally: &mut Tally, case: u32, got: Result<Choice, u8>, wanted: Choice) {
     let choice = got.unwrap_or(Choice { sum: 0, count: 0 });
-    tally.same(case, u64::from(choice.sum), u64::from(wanted.sum));
-    tally.same(case, choice.count as u64, wanted.count as u64);
+    tally.same(case, choice.sum, wanted.sum);
+    tally.same(case, choice.count, wanted.count);
 }
 
 // A strip of up to 8 marks, with labels of 10 dots and weight 1. More places would be refused with 6.

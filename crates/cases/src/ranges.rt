@@ -1,7 +1,7 @@
 // The ranges of a mark at each boundary, strip 13, and the lists of a strip, for the three passes and the writer.
 use crate::passes;
-use crate::strip::Strip;
-use crate::tally::Tally;
+use agreed::tally::Tally;
+use geometry::strip::Strip;
 
 // One mark: its place, length and weight.
 type OneMark = (u32, i16, u8, u16, Result<(), u8>);

@@ -1,9 +1,9 @@
 // Document 01's strips 1 to 11, run at gap 0: lengths are 10, and weights 1 unless said.
 use crate::passes;
-use crate::passes::Choice;
-use crate::strip::Strip;
-use crate::tally::Tally;
 use agreed::lists;
+use agreed::tally::Tally;
+use best::choice::Choice;
+use geometry::strip::Strip;
 
 // Places and a gap, with the positions of full, what slide gives, and the sum of best with its count of left-out marks, as far as each is said.
 pub type Worked<'a> = (
@@ -91,7 +91,7 @@ pub fn leaves_out(
         &mut [0; best::WORK_NAMED],
     );
     passes::same_choice(tally, case, got, Choice { sum, count: 1 });
-    tally.same(case, u64::from(left_out[0]), u64::from(mark));
+    tally.same(case, left_out[0], mark);
 }
 
 pub fn worked(tally: &mut Tally) {

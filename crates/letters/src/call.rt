@@ -1,8 +1,7 @@
 // One call with what it must give: number, width, position list and work area.
-use crate::lists::{first, is_written};
-use crate::strip::Strip;
-use crate::tally::Tally;
-use agreed::lists::UNWRITTEN;
+use agreed::lists::{UNWRITTEN, first, is_written};
+use agreed::tally::Tally;
+use geometry::strip::Strip;
 
 // What stands in the work area before a call, which has elements behind its named part.
 const USED: i16 = 7;
@@ -11,21 +10,9 @@ const BEHIND: usize = 8;
 
 const WHOLE: usize = full::WORK_NAMED + BEHIND;
 
-// The greatest width of a letter cell.
-fn largest(strip: Strip, gap: u8, positions: &mut [u8], work: &mut [i16]) -> Result<u64, u8> {
-    let got = largest::largest(
-        strip.places,
-        strip.lengths,
-        strip.weights,
-        gap,
-        positions,
-        work,
-    );
-    if got.number == 0 {
-        Ok(u64::from(got.width))
-    } else {
-        Err(got.number)
-    }
+// The greatest width of a letter cell. The lengths of a strip are in cells here.
+fn largest(strip: Strip, gap: u8, positions: &mut [u8], work: &mut [i16]) -> Result<u8, u8> {
+    largest::largest(strip, gap, positions, work).map_err(u8::from)
 }
 
 // The named part is cleared at 0 and at 11, and nothing is changed at every other refusal.
@@ -45,7 +32,7 @@ pub const NO_MARKS: Strip = Strip {
 };
 
 // What a call must give: the width, and the positions that it writes.
-pub type Wanted<'a> = Result<(u64, &'a [u8]), u8>;
+pub type Wanted<'a> = Result<(u8, &'a [u8]), u8>;
 
 // How much of a position list of 8 and of the work area is lent.
 #[derive(Clone, Copy)]

@@ -2,13 +2,12 @@
 #![tactic(auto)]
 
 mod call;
-mod lists;
 mod refusals;
-mod strip;
-mod tally;
 mod widths;
 
+use agreed::tally;
+
 fn main() {
-    tally::group(b"widths", widths::widths);
-    tally::group(b"refusals", refusals::refusals);
+    tally::group("widths", widths::widths);
+    tally::group("refusals", refusals::refusals);
 }

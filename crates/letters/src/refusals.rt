@@ -1,8 +1,8 @@
 // Each refusal of the checks, at its boundary and before the one behind it. Every refusal gives no width, and all but 11 change nothing.
 use crate::call;
 use crate::call::{ALL, Lent, NO_MARKS, Wanted};
-use crate::strip::Strip;
-use crate::tally::Tally;
+use agreed::tally::Tally;
+use geometry::strip::Strip;
 
 // Two marks that fit at every width.
 const FITS: Wanted = Ok((30, &[2, 2]));

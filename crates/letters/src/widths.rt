@@ -1,8 +1,8 @@
 // Strips and the greatest width that each has, with a reason that can be followed by hand.
 use crate::call;
 use crate::call::{NO_MARKS, Wanted};
-use crate::strip::Strip;
-use crate::tally::Tally;
+use agreed::tally::Tally;
+use geometry::strip::Strip;
 
 // "An empty strip has width 30."
 fn no_marks(tally: &mut Tally) {

@@ -1,19 +1,14 @@
 // The longest beginning of a text.
-use crate::tally::Tally;
+use agreed::tally::Tally;
 
 // How many bytes the longest beginning has.
-fn beginning(text: &[u8]) -> Result<u64, u8> {
-    let got = font::beginning(text);
-    if got.number == 0 {
-        Ok(got.count as u64)
-    } else {
-        Err(got.number)
-    }
+fn beginning(text: &[u8]) -> Result<usize, u8> {
+    font::beginning(text).map_err(u8::from)
 }
 
 // None, all, exactly 240 dots and a byte behind it, 233 dots and a byte that has no room, and 13 behind the beginning.
 pub fn beginnings(tally: &mut Tally) {
-    let cases: [(u32, &[u8], Result<u64, u8>); 8] = [
+    let cases: [(u32, &[u8], Result<usize, u8>); 8] = [
         (831, b"", Ok(0)),
         (832, b"Wind 7", Ok(6)),
         (833, &[b'i'; 80], Ok(80)),

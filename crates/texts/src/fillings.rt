@@ -1,14 +1,10 @@
 // The length list of texts in one byte list: what is written, each refusal, and the order of two refusals.
-use crate::lists::{first, is_written};
-use crate::tally::Tally;
-use agreed::lists::UNWRITTEN;
+use agreed::lists::{UNWRITTEN, first, is_written};
+use agreed::tally::Tally;
 
 // Writes the lengths of texts, or is refused.
 fn write_lengths(texts: &[u8], counts: &[u16], lengths: &mut [u8]) -> Result<(), u8> {
-    match font::lengths(texts, counts, lengths) {
-        0 => Ok(()),
-        number => Err(number),
-    }
+    font::lengths(texts, counts, lengths).map_err(u8::from)
 }
 
 // Texts and their counts with what must be written in a list of 8, of which so many elements are lent.

@@ -4,12 +4,12 @@
 
 mod beginnings;
 mod fillings;
-mod lists;
-mod tally;
 mod widths;
 
+use agreed::tally;
+
 fn main() {
-    tally::group(b"widths", widths::widths);
-    tally::group(b"beginnings", beginnings::beginnings);
-    tally::group(b"length lists", fillings::fillings);
+    tally::group("widths", widths::widths);
+    tally::group("beginnings", beginnings::beginnings);
+    tally::group("length lists", fillings::fillings);
 }

@@ -1,19 +1,14 @@
 // The measure: the letters of the rule, the whole font byte by byte, and the bounds of a length. Widths are document 02's: i 3, space 4,
 // a 6, m 9.
-use crate::tally::Tally;
+use agreed::tally::Tally;
 
 // How many dots long a text is.
-fn measure(text: &[u8]) -> Result<u64, u8> {
-    let got = font::measure(text);
-    if got.number == 0 {
-        Ok(u64::from(got.length))
-    } else {
-        Err(got.number)
-    }
+fn measure(text: &[u8]) -> Result<u8, u8> {
+    font::measure(text).map_err(u8::from)
 }
 
 // A text with what it must measure.
-type Measured<'a> = (u32, &'a [u8], Result<u64, u8>);
+type Measured<'a> = (u32, &'a [u8], Result<u8, u8>);
 
 fn measures(tally: &mut Tally, cases: &[Measured]) {
     for &(case, text, wanted) in cases {
@@ -48,10 +43,10 @@ const BOUNDS: [Measured; 9] = [
 ];
 
 // How many of all bytes are so many dots wide; 0 counts those that are refused.
-fn as_wide(width: u64) -> u64 {
+fn as_wide(width: u8) -> usize {
     (0..=255)
         .filter(|&byte| measure(&[byte]).unwrap_or(0) == width)
-        .count() as u64
+        .count()
 }
 
 // Nine letters of 3 dots, one of 4, 81 of 6 and four of 9 are the 95 of the font; 161 bytes are outside it.
