@@ -38,12 +38,15 @@ pub fn fill(strip: Strip, gap: u8, work: &mut [i16]) -> u8
         return kept.count;
     };
     store(work, last, kept);
+    let mut next = Mark::at(strip, last);
     for i in (0..last).rev() {
-        kept = kept_before(Mark::at(strip, i), gap, Mark::at(strip, i + 1), kept);
+        let mark = Mark::at(strip, i);
+        kept = kept_before(mark, gap, next, kept);
         if kept.count == 0 {
             return 0;
         }
         store(work, i, kept);
+        next = mark;
     }
     kept.count
 }
