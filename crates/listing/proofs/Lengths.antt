@@ -1,4 +1,5 @@
--- How long a piece of text is at most: a number has at most five digits.
+-- How long a piece of text is at most. A number has at most five digits, so numbers have six bytes each with their spaces, and the full line
+-- of 4,000 marks has 24,010 at most.
 use mathlib.Core.Path.{◌≡◌, refl, ◌∙◌}
 use mathlib.Core.Bool.{Bool, true, false, cond}
 use mathlib.Core.List.{List, [], ◌∷◌, ◌++◌, map}
@@ -55,4 +56,5 @@ slide-most false = omega arith
 pub best-most : (sum all : ℕ) → length (best_line sum all) ≤ 20
 best-most sum all = simp length-append (omega (arith, decimal-most sum, decimal-most all))
 
+-- what the check alone needs to find the room for a piece behind others
 pub ruleset lengths = (length-append, digit-most, decimal-most, spaced-most, slide-most, best-most)

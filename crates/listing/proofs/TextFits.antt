@@ -23,7 +23,8 @@ use Rattle.best.proofs.ListedFew.{few-left-out}
 use Rattle.job.specs.Number.{Bytes}
 use Rattle.job.specs.Outcome.{Outcome, given, refusal}
 use Rattle.job.proofs.RoundTrips.{read-accepted}
-use Rattle.listing.specs.Text.{listing_gap, decimal, marks_word, refused_word, marks_line, full_line, slide_line, best_line, out_line, too_long_lines, short_lines, strip_lines, listing_of}
+use Rattle.listing.specs.Text.{listing_gap, decimal, marks_word, refused_word, marks_line, full_line, slide_line, best_line, out_line}
+use Rattle.listing.specs.Text.{too_long_lines, short_lines, strip_lines, listing_of}
 use Rattle.listing.proofs.Lengths.{spaced-most, line-most, full-most, slide-most, best-most}
 use Rattle.listing.specs.Listing.{said_by, TextOf, text_most, ListingContract}
 use Rattle.std.specs.Prelude.{Result, Ok, Err}

@@ -10,7 +10,7 @@ use arrayvec::ArrayVec;
 
 pub type Text = ArrayVec<u8, TEXT_MOST>;
 
-// A fixed word.
+// A fixed word. There is room for it, so it is put as a whole.
 pub fn put_word(text: &mut Text, word: &[u8])
     requires { array_vec_len text.old + length word.now ≤ text_most }
     ensures { text.new.items ≡ text.old.items ++ word.now }
