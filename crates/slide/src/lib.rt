@@ -16,6 +16,7 @@ use geometry::entry::check_pass;
 use geometry::limits::MOST_SHORT;
 use geometry::refusal::{Refusal, check};
 use geometry::strip::Strip;
+use geometry::work::clear;
 
 // The part of the work area that is named, and ends as zeros also at 11.
 pub const WORK_NAMED: usize = 30000;
@@ -38,7 +39,7 @@ fn answer(
     if fits {
         walk::walk(marks, work, sides, edges);
     }
-    work[..WORK_NAMED].fill(0);
+    clear(work, WORK_NAMED, 0);
     check(fits, Refusal::NoPlacing)
 }
 
