@@ -40,11 +40,9 @@ pub fn best_against_full(
     };
     match placed {
         Ok(()) => Some(Comparison { fits: true, sum }),
-        Err(refusal) => {
-            if refusal != Refusal::NoPlacing {
-                return None;
-            }
-            Some(Comparison { fits: false, sum })
-        }
+        Err(refusal) => match refusal {
+            Refusal::NoPlacing => Some(Comparison { fits: false, sum }),
+            _ => None,
+        },
     }
 }

@@ -2,7 +2,7 @@
 ghost use Rattle.std.specs.Prelude.{◌≡◌, ◌≤◌, length};
 ghost use Rattle.geometry.specs.Pass.{cleared};
 
-// Puts zeros into its named part.
+// Puts zeros into its named part. A loop: `fill` would ask here that a clone of the zero is made, and is equal to it.
 pub fn clear<T: Copy>(work: &mut [T], named: usize, zero: T)
     requires { named ≤ length work.old }
     ensures { work.new ≡ cleared named zero work.old }
