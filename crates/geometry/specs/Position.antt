@@ -56,15 +56,15 @@ mirror unlabelled = unlabelled
 mirror (at s d) = at (opposite s) d
 
 -- of the reaches a (above) and b (below), the one of a side
-abbrev pub own_reach : Side → ℕ → ℕ → ℕ
+abbrev pub own_reach {ℓ} : {A : Type ℓ} → Side → A → A → A
 own_reach above a b = a
 own_reach below a b = b
 
 -- the two reaches after a label on a side that reaches to r
-abbrev pub above_after : Side → ℕ → ℕ → ℕ
+abbrev pub above_after {ℓ} : {A : Type ℓ} → Side → A → A → A
 above_after above r a = r
 above_after below r a = a
 
-abbrev pub below_after : Side → ℕ → ℕ → ℕ
+abbrev pub below_after {ℓ} : {A : Type ℓ} → Side → A → A → A
 below_after above r b = b
 below_after below r b = r

@@ -1,6 +1,6 @@
 // The positions of a mark's label and the sides of the line, with the numbers that stand for them in lent lists.
 ghost use Rattle.std.specs.Prelude.{◌≡◌};
-ghost use Rattle.geometry.specs.Position.{code, side_code, labelled};
+ghost use Rattle.geometry.specs.Position.{code, side_code, labelled, own_reach, above_after, below_after};
 ghost use Rattle.geometry.specs.inner.Positions.{position_of, side_of, lies_on_lem, direction_at, points_left};
 
 #[derive(Clone, Copy, Debug, PartialEq, Eq)]
@@ -14,6 +14,41 @@ impl From<Side> for u8 {
 
     fn from(side: Side) -> u8 {
         side as u8
+    }
+}
+
+// What there is once for each side, such as the reaches of the two.
+#[derive(Clone, Copy, Debug, PartialEq, Eq)]
+pub struct Sides<T> {
+    pub above: T,
+    pub below: T,
+}
+
+impl<T: Copy> Sides<T> {
+    pub fn on(self, side: Side) -> T
+        ensures { result ≡ own_reach (side_of side) self.above self.below }
+    {
+        match side {
+            Side::Above => self.above,
+            Side::Below => self.below,
+        }
+    }
+
+    // The same with another value on a side.
+    pub fn with(self, side: Side, value: T) -> Sides<T>
+        ensures above { result.above ≡ above_after (side_of side) value self.above }
+        ensures below { result.below ≡ below_after (side_of side) value self.below }
+    {
+        match side {
+            Side::Above => Sides {
+                above: value,
+                ..self
+            },
+            Side::Below => Sides {
+                below: value,
+                ..self
+            },
+        }
     }
 }
 

@@ -1,4 +1,5 @@
-// A strip as a caller hands it over: its mark lists, which need not have one length, nor values in range.
+// A strip as a caller hands it over: its mark lists, which need not have one length, nor values in range. Three lists and not one of marks:
+// a C host lends them so.
 #[derive(Clone, Copy)]
 pub struct Strip<'a> {
     pub places: &'a [i16],
