@@ -7,7 +7,7 @@ use Prim.Native.Nat.{ℕ, suc, ◌+◌, ◌*◌, ◌≤◌, ◌<◌}
 use native.Mathlib.Omega.{arith}
 use lib.Dec.{ltb}
 use lib.IntN.{ℤ}
-use lib.ListN.{length, drop, set, length-map, length-drop}
+use lib.ListN.{length, drop, set, length-map}
 use Rattle.geometry.specs.Dot.{empty_reach}
 use Rattle.geometry.specs.Mark.{Mark}
 use Rattle.geometry.specs.Position.{Side, side_code, own_reach, above_after, below_after}
@@ -16,14 +16,13 @@ use Rattle.geometry.specs.Pass.{written}
 use Rattle.geometry.specs.inner.Place.{place_of_lem}
 use Rattle.geometry.specs.inner.Outside.{no_bound}
 use Rattle.geometry.proofs.Each.{each-drop}
-use Rattle.slide.specs.Slide.{work_named}
 use Rattle.slide.specs.inner.Plain.{plain_marks, plain_at, Checked}
 use Rattle.slide.specs.inner.Room.{slideable}
 use Rattle.slide.specs.inner.Table.{row_cells, cell_in, RowHolds, TableHolds}
 use Rattle.slide.specs.inner.Walk.{takes_above, side_if, side_before, sides_from, LabelOn, StepReady, fits_plain}
 use Rattle.slide.proofs.ExactCells.{LabelInside, Inside, cells_of}
 use Rattle.slide.proofs.WalkAllowed.{Goes, walk-goes, below-small, walk-length}
-use Rattle.slide.proofs.PlainMarks.{marks-inside, marks-length, label_at, marks-from, marks-end}
+use Rattle.slide.proofs.PlainMarks.{marks-inside, marks-length, marks-from, marks-end}
 use Rattle.slide.proofs.FilledRows.{own_same}
 use Rattle.slide.proofs.RowByRow.{rows-from}
 use Rattle.slide.proofs.WrittenSoFar.{WrittenTo, written_none, written-more, written_all}
@@ -148,12 +147,10 @@ module _ (places : List ℤ) (lengths : List ℕ) (g : ℕ) where
             (own_same here a row (cells_of g here rest) inside.0.left row-holds)
 
         -- what the step asks of the mark and the row that the code finds
-        pub step-ready : (m : Mark) (cells : List ℕ) → m ≡ here → cells ≡ drop (i * row_cells) work → work_named ≤ length work
-            → StepReady cells m g a b
-        step-ready m cells m-is cells-are long =
+        pub step-ready : (m : Mark) (cells : List ℕ) → m ≡ here → cells ≡ drop (i * row_cells) work → StepReady cells m g a b
+        step-ready m cells m-is cells-are =
             rw (m-is, cells-are)
             (record {
-              row-there = omega (arith, checked.few, label_at places lengths g checked i more, length-drop (i * row_cells) work);
               gap-narrow = checked.gap-narrow;
               one_free = λ e. below_free _ g a b here rest goes (sym same_test ∙ e);
             })

@@ -3,6 +3,7 @@
 
 mod mark;
 mod marks;
+mod row;
 mod table;
 mod walk;
 

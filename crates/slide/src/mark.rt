@@ -11,11 +11,10 @@ pub struct Mark {
 }
 
 impl Mark {
-    ghost use Rattle.std.specs.Prelude.{◌≡◌, ◌+◌, ◌-◌, ◌≤◌, ◌<◌, length as list_length};
+    ghost use Rattle.std.specs.Prelude.{◌≡◌, ◌+◌, ◌-◌, ◌≤◌};
     ghost use Rattle.geometry.specs.Sliding.{leftmost_edge};
     ghost use Rattle.slide.specs.inner.Handed.{mark_of};
-    ghost use Rattle.slide.specs.inner.Room.{slid_by, own_side_lem, other_side_lem};
-    ghost use Rattle.slide.specs.inner.Table.{cell_in};
+    ghost use Rattle.slide.specs.inner.Room.{slid_by, other_side_lem};
 
     // The leftmost place of the label's left edge.
     fn start(self) -> u16
@@ -25,7 +24,7 @@ impl Mark {
     }
 
     // How far the label slides from there on a side with this reach.
-    fn slid(self, reach: u16) -> u16
+    pub fn slid(self, reach: u16) -> u16
         ensures { result ≡ slid_by (mark_of self) reach }
     {
         reach.saturating_sub(self.start())
@@ -36,17 +35,6 @@ impl Mark {
         ensures { result ≡ leftmost_edge (mark_of self) reach }
     {
         reach.max(self.start())
-    }
-
-    // The cell of the label on the side of the reach, or 0 where the reach is beyond the mark.
-    pub fn own_side(self, row: &[u16], reach: u16) -> u16
-        requires { self.length < list_length row.now }
-        ensures { result ≡ own_side_lem (mark_of self) reach (cell_in row.now) }
-    {
-        if self.place < reach {
-            return 0;
-        }
-        row[self.slid(reach) as usize]
     }
 
     // The bound where the label lies on the other side and may slide by less than `slides` dots.

@@ -1,50 +1,37 @@
 // The table of what the rest of the strip can still take: for each mark, and each number of dots by which its label may slide, the
 // greatest reach of the other side with which the marks after it can all be placed. A cell holds 0 for none, else one more than that
-// reach's dot. A side reaches as far as its last label and the gap behind it, so the gap is in every reach and in no test.
+// reach's dot: a number and no `Option`, since it stands in lent memory (C interface), and the greater of two is found without a test.
+// A side reaches as far as its last label and the gap behind it, so the gap is in every reach and in no test.
 ghost use Rattle.std.specs.Prelude.{◌≡◌, ◌||◌, ◌+◌, ◌≤◌, ◌<◌, ltb, eqb, length, get_or};
 ghost use Rattle.geometry.specs.Dot.{empty_reach};
 ghost use Rattle.geometry.specs.Pass.{most_gap};
 ghost use Rattle.slide.specs.Slide.{work_named};
 ghost use Rattle.slide.specs.inner.Handed.{mark_of, plain_of};
-ghost use Rattle.slide.specs.inner.Room.{furthest};
 ghost use Rattle.slide.specs.inner.Table.{cell_in, CellsAre, row_before, RowReady, TableFrom};
 
 use crate::mark::Mark;
 use crate::marks::Marks;
+use crate::row::Row;
 use geometry::dot::{EMPTY_REACH, NO_BOUND};
 use geometry::limits::MOST_LENGTH;
 
 // Cells of a row: a label slides by 0 to MOST_LENGTH dots.
 pub const ROW_CELLS: usize = MOST_LENGTH as usize + 1;
 
-// One more than the greatest slide below `count` whose cell lies beyond the reach, or 0.
-fn furthest_slide(row: &[u16], reach: u16, count: usize) -> usize
-    requires { count ≤ length row.now }
-    ensures { result ≡ furthest (cell_in row.now) reach count }
-{
-    for d in (0..count).rev() {
-        if reach < row[d] {
-            return d + 1;
-        }
-    }
-    0
-}
-
 // The cells of a mark from the row of the next one. The label that does not slide reaches least, and each dot further adds one. The bounds
 // fall as the reach grows, so each scan goes on where the last one stopped.
-fn fill_cells(cells: &mut [u16], mark: Mark, gap: u8, next: Mark, next_row: &[u16])
+fn fill_cells(cells: &mut [u16], mark: Mark, gap: u8, next: Row)
     requires count { length cells.old ≡ mark.length + 1 }
     requires narrow { gap ≤ most_gap }
-    requires there { next.length < length next_row.now }
-    ensures { CellsAre cells.new (row_before gap (mark_of mark) (mark_of next) (cell_in next_row.now)) }
+    ensures { CellsAre cells.new (row_before gap (mark_of mark) (mark_of next.entry.mark) (cell_in next.entry.cells.now)) }
 {
     let least_reach = mark.place + gap as u16;
-    let mut slides = next.length as usize + 1;
+    let mut slides = next.mark.length as usize + 1;
     for (d, cell) in cells.iter_mut().enumerate() {
         let reach = least_reach + d as u16;
-        slides = furthest_slide(next_row, reach, slides);
-        let own = next.own_side(next_row, reach);
-        let other = next.other_side(slides);
+        slides = next.furthest_slide(reach, slides);
+        let own = next.own_side(reach);
+        let other = next.mark.other_side(slides);
         *cell = own.max(other);
     }
 }
@@ -62,7 +49,11 @@ fn fill_mark(marks: Marks, work: &mut [u16], k: usize)
         cells.fill(NO_BOUND);
         return;
     }
-    fill_cells(cells, mark, marks.gap, marks.at(k + 1), behind);
+    let next = Row {
+        mark: marks.at(k + 1),
+        cells: behind,
+    };
+    fill_cells(cells, mark, marks.gap, next);
 }
 
 // The rows of all marks, from the last to the first.

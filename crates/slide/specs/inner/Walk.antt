@@ -1,5 +1,5 @@
 -- The walk from the left: above wherever the rest can still take it, else below.
-use Rattle.std.specs.Prelude.{ℕ, ◌≤◌, ◌<◌, ◌≡◌, List, [], ◌∷◌, map, Bool, true, false, cond, ltb, ℤ, length}
+use Rattle.std.specs.Prelude.{ℕ, ◌≤◌, ◌≡◌, List, [], ◌∷◌, map, Bool, true, false, cond, ltb, ℤ, length}
 use Rattle.geometry.specs.Dot.{empty_reach}
 use Rattle.geometry.specs.Mark.{Mark}
 use Rattle.geometry.specs.Position.{Side, above, below, side_code, own_reach, above_after, below_after}
@@ -38,9 +38,8 @@ pub record LabelOn (g : ℕ) (s : Side) (m : Mark) (a b : ℕ) (side : Side) (ed
   pub above-is : above_next ≡ above_after s (reach_past g m (own_reach s a b)) a
   pub below-is : below_next ≡ below_after s (reach_past g m (own_reach s a b)) b
 
--- what one step of the walk asks of the mark's row: it is there, the gap is narrow, and where above is not taken below is free
+-- what one step of the walk asks of the mark's row: the gap is narrow, and where above is not taken below is free
 pub record StepReady (row : List ℕ) (m : Mark) (g a b : ℕ) : Type 0 where
-  pub row-there : m.label_length < length row
   pub gap-narrow : g ≤ most_gap
   pub one_free : takes_above a b m (cell_in row) ≡ false → b ≤ m.place
 

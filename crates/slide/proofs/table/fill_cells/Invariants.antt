@@ -5,4 +5,4 @@ use Rattle.slide.proofs.FilledRows.{Scanned}
 use Rattle.slide.proofs.table.fill_cells.Given as goal
 
 abbrev pub invariant-loop-d : goal.invariant-loop-d
-invariant-loop-d l = Scanned l.gap (mark_of l.fn.mark) (mark_of l.next) (cell_in l.next_row) l.cells l.d l.slides
+invariant-loop-d l = Scanned l.gap (mark_of l.fn.mark) (mark_of l.next.mark) (cell_in l.next.cells.now) l.cells l.d l.slides

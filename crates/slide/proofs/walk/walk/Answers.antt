@@ -26,7 +26,7 @@ pub place_label-label-requires : goal.place_label-label-requires
 place_label-label-requires c =
     let row = between_to_end c.args.work.now (c.loop-i.i * row_cells) (length c.args.work.now) (omega arith) in
     step-ready _ _ _ c.args.marks.checked c.args.work.now _ _ _ _ _ _ c.loop-i.i c.requires.table c.loop-i.invariant (omega arith)
-    (mark_of c.at.result) _ c.at.ensures row c.requires.work-long
+    (mark_of c.at.result) _ c.at.ensures row
 
 pub loop-i-preserved : goal.loop-i-preserved
 loop-i-preserved c =

@@ -2,7 +2,7 @@
 use mathlib.Core.Path.{◌≡◌}
 use Rattle.slide.specs.inner.Room.{furthest}
 use Rattle.slide.specs.inner.Table.{cell_in}
-use Rattle.slide.proofs.table.furthest_slide.Given as goal
+use Rattle.slide.proofs.row.Row.furthest_slide.Given as goal
 
 abbrev pub invariant-loop-d : goal.invariant-loop-d
-invariant-loop-d l = furthest (cell_in l.row) l.reach l.count ≡ furthest (cell_in l.row) l.reach l.d
+invariant-loop-d l = furthest (cell_in l.self.cells.now) l.reach l.count ≡ furthest (cell_in l.self.cells.now) l.reach l.d
