@@ -16,7 +16,7 @@ use Rattle.job.specs.Number.{bytes_of, word_of}
 use Rattle.job.specs.Format.{word_width, header_length}
 use Rattle.job.specs.Encode.{encode_records, first_place_lem, header_bytes, records_of, encode}
 use Rattle.job.specs.inner.Put.{PutAt, Writable, bytes_of_record, RecordOf}
-use Rattle.job.specs.declared.writer.Record.{Record}
+use Rattle.job.specs.declared.marks.Record.{Record}
 use Rattle.job.proofs.Numbers.{bytes-length}
 use Rattle.job.proofs.StoredMarks.{stores-append}
 use Rattle.job.proofs.PutBytes.{put-length}

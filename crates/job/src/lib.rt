@@ -3,6 +3,7 @@
 
 mod field;
 mod format;
+mod marks;
 pub mod reader;
 mod record;
 pub mod writer;

@@ -1,58 +1,21 @@
 // The job writer: the job's length is computed before a byte is written, so that a refusal changes none. It counts a position, where the
 // reader goes over the bytes that are left: a rest that is written to would be lent back by each call, with a clause on what becomes of it.
-ghost use Rattle.std.specs.Prelude.{◌≡◌, ◌+◌, ◌≤◌, ◌<◌, eqb, length, Bool};
+ghost use Rattle.std.specs.Prelude.{◌≡◌, ◌+◌, ◌≤◌, eqb, length};
 ghost use Rattle.std.proofs.lemmas.List.Edits.{sets};
-ghost use Rattle.geometry.specs.Strip.{lists_of, most_marks};
+ghost use Rattle.geometry.specs.Strip.{lists_of};
 ghost use Rattle.job.specs.Number.{bytes_of};
 ghost use Rattle.job.specs.Format.{word_width, header_length, record_most};
-ghost use Rattle.job.specs.Encode.{encode_bit, encode_field, encode_map, first_place_lem, header_bytes, records_of, encode};
+ghost use Rattle.job.specs.Encode.{encode_bit, encode_field, encode_map, header_bytes, records_of, encode};
 ghost use Rattle.job.specs.Calls.{WriteContract, written_answer};
 ghost use Rattle.job.specs.inner.Step.{row_of};
-ghost use Rattle.job.specs.inner.Put.{PutAt, Writable, step_at_lem, bytes_of_record, RecordOf};
+ghost use Rattle.job.specs.inner.Put.{PutAt, bytes_of_record};
 
 use crate::field::Field;
-use crate::format::{ABSENT_STEP, HEADER_LENGTH, WORD_WIDTH};
-use geometry::dot::dot_of;
+use crate::format::{HEADER_LENGTH, WORD_WIDTH};
+use crate::marks::{Marks, Record};
 use geometry::entry::check_strip;
 use geometry::refusal::{Refusal, check};
 use geometry::strip::Strip;
-
-// The three values of a record. The first mark has no step, which is written as the absent value is.
-#[derive(Clone, Copy)]
-pub struct Record {
-    pub step: u16,
-    pub length: u16,
-    pub weight: u16,
-}
-
-// The first place, or 0 where there are no marks.
-fn first_place(places: &[i16]) -> i16
-    ensures { result ≡ first_place_lem places.now }
-{
-    places.first().copied().unwrap_or(0)
-}
-
-// The step to mark i, counted from 0.
-fn step_at(strip: Strip, i: usize) -> u16
-    requires { Writable (lists_of strip) × (i < length strip.places.now) }
-    ensures { result ≡ step_at_lem strip.entry.places.now i }
-{
-    if i == 0 {
-        return ABSENT_STEP;
-    }
-    dot_of(strip.places[i]) - dot_of(strip.places[i - 1])
-}
-
-fn record_at(strip: Strip, i: usize) -> Record
-    requires { Writable (lists_of strip) × (i < length strip.places.now) }
-    ensures { RecordOf (lists_of strip.entry) i result }
-{
-    Record {
-        step: step_at(strip, i),
-        length: strip.lengths[i] as u16,
-        weight: strip.weights[i],
-    }
-}
 
 // Whether a value is the one that a field has if absent, which is not written.
 fn is_absent(field: Field, value: u16) -> bool
@@ -79,13 +42,12 @@ fn record_length(one: Record) -> usize
         + field_length(Field::Weight, one.weight)
 }
 
-fn job_length(strip: Strip) -> usize
-    requires { Writable (lists_of strip) }
-    ensures { result ≡ length (encode (lists_of strip.entry)) }
+fn job_length(marks: Marks) -> usize
+    ensures { result ≡ length (encode (lists_of marks.entry.strip)) }
 {
     let mut total = HEADER_LENGTH;
-    for i in 0..strip.places.len() {
-        total += record_length(record_at(strip, i));
+    for i in 0..marks.strip.places.len() {
+        total += record_length(marks.record_at(i));
     }
     total
 }
@@ -101,12 +63,12 @@ fn put_word(job: &mut [u8], at: usize, value: u16)
 }
 
 // Writes the header: the count of marks and the first place.
-fn put_header(places: &[i16], job: &mut [u8])
-    requires { (length places.now ≤ most_marks) × (header_length ≤ length job.old) }
-    ensures { job.new ≡ sets job.old 0 (header_bytes places.now) }
+fn put_header(marks: Marks, job: &mut [u8])
+    requires { header_length ≤ length job.old }
+    ensures { job.new ≡ sets job.old 0 (header_bytes marks.entry.strip.places.now) }
 {
-    put_word(job, 0, places.len() as u16);
-    put_word(job, WORD_WIDTH, first_place(places).cast_unsigned());
+    put_word(job, 0, marks.strip.places.len() as u16);
+    put_word(job, WORD_WIDTH, marks.first_place().cast_unsigned());
 }
 
 // Writes a field unless it has its absent value, and gives the position after it.
@@ -157,14 +119,13 @@ fn put_record(job: &mut [u8], at: usize, one: Record) -> usize
     put_field(job, after_length, Field::Weight, one.weight)
 }
 
-fn put_records(strip: Strip, job: &mut [u8])
-    requires { Writable (lists_of strip)
-        × (header_length + length (records_of (lists_of strip)) ≤ length job.old) }
-    ensures { job.new ≡ sets job.old header_length (records_of (lists_of strip.entry)) }
+fn put_records(marks: Marks, job: &mut [u8])
+    requires { header_length + length (records_of (lists_of marks.strip)) ≤ length job.old }
+    ensures { job.new ≡ sets job.old header_length (records_of (lists_of marks.entry.strip)) }
 {
     let mut at = HEADER_LENGTH;
-    for i in 0..strip.places.len() {
-        at = put_record(job, at, record_at(strip, i));
+    for i in 0..marks.strip.places.len() {
+        at = put_record(job, at, marks.record_at(i));
     }
 }
 
@@ -173,9 +134,10 @@ pub fn write(strip: Strip, job: &mut [u8]) -> Result<usize, Refusal>
     ensures { WriteContract (lists_of strip.entry) job.old job.new (written_answer result) }
 {
     check_strip(strip)?;
-    let total = job_length(strip);
+    let marks = Marks { strip };
+    let total = job_length(marks);
     check(total <= job.len(), Refusal::ListTooShort)?;
-    put_header(strip.places, job);
-    put_records(strip, job);
+    put_header(marks, job);
+    put_records(marks, job);
     Ok(total)
 }

@@ -5,7 +5,7 @@ use Rattle.geometry.specs.Strip.{Strip, most_marks}
 use Rattle.geometry.specs.Refusal.{accepted}
 use Rattle.geometry.specs.Entry.{entry}
 use Rattle.job.specs.Encode.{step_to, encode_record}
-use Rattle.job.specs.declared.writer.Record.{Record}
+use Rattle.job.specs.declared.marks.Record.{Record}
 
 -- bytes that were put into a job from a position on, and the position after them
 pub record PutAt (old : List ℕ) (at : ℕ) (bs : List ℕ) (next : ℕ) (new : List ℕ) : Type 0 where

@@ -13,4 +13,4 @@ pub record Counted (s : Strip) (total i : ℕ) : Type 0 where
   pub together : header_length + length (records_of s) ≡ total + length (records_from s i)
 
 abbrev pub invariant-loop-i : goal.invariant-loop-i
-invariant-loop-i l = Counted (lists_of l.strip) l.total l.i
+invariant-loop-i l = Counted (lists_of l.marks.strip) l.total l.i

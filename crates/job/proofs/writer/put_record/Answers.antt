@@ -6,7 +6,7 @@ use native.Mathlib.Omega.{arith}
 use lib.ListN.{length, length-set, length-append}
 use Rattle.job.specs.Encode.{encode_map}
 use Rattle.job.specs.inner.Put.{PutAt, bytes_of_record}
-use Rattle.job.specs.declared.writer.Record.{Record}
+use Rattle.job.specs.declared.marks.Record.{Record}
 use Rattle.job.proofs.RecordBytes.{step_bytes, length_bytes, weight_bytes, record-size, record-joined}
 use Rattle.job.proofs.PutBytes.{put_byte, put_two, put-length}
 use Rattle.job.proofs.writer.put_record.Goals as goal

@@ -6,19 +6,19 @@ use Rattle.job.proofs.RecordsToWrite.{putting-next, putting-ends, own_room}
 use Rattle.job.proofs.writer.put_records.Goals as goal
 
 pub loop-i-init : goal.loop-i-init
-loop-i-init c = record { as_long = refl; room = c.requires.1; stores = refl }
+loop-i-init c = record { as_long = refl; room = c.requires; stores = refl }
 
 pub put_record-at-requires : goal.put_record-at-requires
 put_record-at-requires c =
-    let marks = lists_of c.args.strip in
-    own_room marks c.requires.0 c.loop-i.i (omega arith) c.record_at.result c.record_at.ensures c.loop-i.invariant
+    let marks = lists_of c.args.marks.strip in
+    own_room marks c.args.marks.good c.loop-i.i (omega arith) c.record_at.result c.record_at.ensures c.loop-i.invariant
 
 pub loop-i-preserved : goal.loop-i-preserved
 loop-i-preserved c =
-    let marks = lists_of c.args.strip in
-    putting-next marks c.requires.0 c.loop-i.i (omega arith) c.record_at.result c.record_at.ensures c.loop-i.invariant c.put_record-at.ensures
+    let marks = lists_of c.args.marks.strip in
+    putting-next marks c.args.marks.good c.loop-i.i (omega arith) c.record_at.result c.record_at.ensures c.loop-i.invariant c.put_record-at.ensures
 
 pub returns : goal.returns
 returns c =
-    let marks = lists_of c.args.strip in
+    let marks = lists_of c.args.marks.strip in
     putting-ends marks c.loop-i.i _ _ c.loop-i.at (omega arith) c.loop-i.invariant

@@ -4,4 +4,4 @@ use Rattle.job.proofs.RecordsToWrite.{Putting}
 use Rattle.job.proofs.writer.put_records.Given as goal
 
 abbrev pub invariant-loop-i : goal.invariant-loop-i
-invariant-loop-i l = Putting (lists_of l.strip) l.i l.initial.job l.job l.at
+invariant-loop-i l = Putting (lists_of l.marks.strip) l.i l.initial.job l.job l.at

@@ -4,8 +4,7 @@ use Prim.Native.Nat.{◌+◌, ◌≤◌}
 use native.Mathlib.Omega.{arith}
 use lib.ListN.{length}
 use lib.Seq.{length-sets}
-use Rattle.geometry.specs.Strip.{lists_of, most_marks}
-use Rattle.geometry.proofs.Accepted.{entry-accepted}
+use Rattle.geometry.specs.Strip.{lists_of}
 use Rattle.job.specs.Format.{header_length}
 use Rattle.job.specs.Encode.{header_bytes, records_of}
 use Rattle.job.specs.inner.Put.{Writable}
@@ -31,7 +30,7 @@ put_header-requires c =
     let good : Writable marks = sym c.in_ok-check_strip.ensures in
     let fits : c.job_length-total.result ≤ length c.args.job.now = check-holds _ _ _ c.in_ok-check.ensures in
     let size : c.job_length-total.result ≡ header_length + length (records_of marks) = c.job_length-total.ensures ∙ encode-size marks in
-    ((entry-accepted most_marks marks good).few, omega arith)
+    omega arith
 
 pub put_records-requires : goal.put_records-requires
 put_records-requires c =
@@ -41,7 +40,7 @@ put_records-requires c =
     let size : c.job_length-total.result ≡ header_length + length (records_of marks) = c.job_length-total.ensures ∙ encode-size marks in
     let as_long : length c.put_header.new.job ≡ length c.args.job.now =
     ap length c.put_header.ensures ∙ length-sets c.args.job.now 0 (header_bytes c.args.strip.places.now) in
-    (good, omega arith)
+    omega arith
 
 pub returns : goal.returns
 returns c =
