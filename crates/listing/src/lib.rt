@@ -16,6 +16,7 @@ ghost use Rattle.listing.specs.inner.Lines.{ShortLines, StripLines};
 use geometry::limits::{MOST_MARKS, MOST_SHORT};
 use geometry::refusal::{Refusal, check};
 use geometry::strip::Strip;
+use passes::Short;
 use text::Text;
 
 // No text is longer: a count, at most 4,000 positions and the lines below them.
@@ -23,15 +24,14 @@ pub const TEXT_MOST: usize = 25000;
 
 // The slide, the best and the out line of a short strip.
 #[tactic(auto, using(crate::proofs::Lengths::lengths))]
-fn put_short(strip: Strip, text: &mut Text)
-    requires good { entry most_short (lists_of strip) ≡ accepted }
-    requires room { array_vec_len text.old + 420 ≤ text_most }
-    ensures { ShortLines (lists_of strip.entry) text.old.items text.new.items }
+fn put_short(short: Short, text: &mut Text)
+    requires { array_vec_len text.old + 420 ≤ text_most }
+    ensures { ShortLines (lists_of short.entry.strip) text.old.items text.new.items }
 {
-    lines::put_slide(text, passes::slides(strip));
+    lines::put_slide(text, short.slides());
     let mut left_out = [0u16; MOST_SHORT];
-    let found = passes::choose(strip, &mut left_out);
-    lines::put_sums(text, found.sum, passes::total_weight(strip.weights));
+    let found = short.choose(&mut left_out);
+    lines::put_sums(text, found.sum, passes::total_weight(short.strip.weights));
     lines::put_out(text, &left_out[..found.count]);
 }
 
@@ -46,7 +46,7 @@ fn put_strip(strip: Strip, text: &mut Text)
     if MOST_SHORT < strip.places.len() {
         return lines::put_too_long(text);
     }
-    put_short(strip, text);
+    put_short(Short { strip }, text);
 }
 
 // The whole text of a job.

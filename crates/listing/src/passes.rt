@@ -29,28 +29,35 @@ pub fn fits<'a>(strip: Strip, positions: &'a mut [u8]) -> Option<&'a [u8]>
     }
 }
 
-// Whether it fits with sliding labels.
-pub fn slides(strip: Strip) -> bool
-    requires { entry most_short (lists_of strip) ≡ accepted }
-    ensures { result ≡ slides_whole listing_gap (marks_of (lists_of strip.entry)) }
-{
-    let mut sides = [0u8; MOST_SHORT];
-    let mut edges = [0i16; MOST_SHORT];
-    let mut work = [0u16; slide::WORK_NAMED];
-    slide::slide(strip, GAP, &mut sides, &mut edges, &mut work).is_ok()
+// A short strip, which the slide and the best pass take too.
+#[derive(Clone, Copy)]
+pub struct Short<'a> {
+    pub strip: Strip<'a>,
+    ghost good: { entry most_short (lists_of strip) ≡ accepted },
 }
 
-// The greatest sum and the count of left-out marks, whose numbers are put into the list.
-pub fn choose(strip: Strip, left_out: &mut [u16]) -> Choice
-    requires good { entry most_short (lists_of strip) ≡ accepted }
-    requires room { most_short ≤ length left_out.old }
-    ensures { BestFound
-        (lists_of strip.entry) result.sum result.count
-        left_out.new }
-{
-    let mut positions = [0u8; MOST_SHORT];
-    let mut work = [0u32; best::WORK_NAMED];
-    best::best(strip, GAP, &mut positions, left_out, &mut work).unwrap()
+impl Short<'_> {
+    // Whether it fits with sliding labels.
+    pub fn slides(self) -> bool
+        ensures { result ≡ slides_whole listing_gap (marks_of (lists_of self.entry.strip)) }
+    {
+        let mut sides = [0u8; MOST_SHORT];
+        let mut edges = [0i16; MOST_SHORT];
+        let mut work = [0u16; slide::WORK_NAMED];
+        slide::slide(self.strip, GAP, &mut sides, &mut edges, &mut work).is_ok()
+    }
+
+    // The greatest sum and the count of left-out marks, whose numbers are put into the list.
+    pub fn choose(self, left_out: &mut [u16]) -> Choice
+        requires { most_short ≤ length left_out.old }
+        ensures { BestFound
+            (lists_of self.entry.strip) result.sum result.count
+            left_out.new }
+    {
+        let mut positions = [0u8; MOST_SHORT];
+        let mut work = [0u32; best::WORK_NAMED];
+        best::best(self.strip, GAP, &mut positions, left_out, &mut work).unwrap()
+    }
 }
 
 // The sum of the weights of at most 60 marks.

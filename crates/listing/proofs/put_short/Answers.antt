@@ -10,8 +10,8 @@ use Rattle.listing.proofs.put_short.Goals as goal
 
 pub total_weight-requires : goal.total_weight-requires
 total_weight-requires c =
-    let s = lists_of c.args.strip in
-    let all = entry-accepted most_short s c.requires.good in
+    let short = c.args.short in
+    let all = entry-accepted most_short (lists_of short.strip) short.good in
     omega (arith, all.few, all.same-weights)
 
 pub returns : goal.returns

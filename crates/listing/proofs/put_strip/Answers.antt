@@ -28,10 +28,11 @@ put_short-requires c =
     let s = lists_of c.args.strip in
     let before = c.args.text.now.items in
     let full = full-line s before c.fits.ensures c.put_full.ensures in
-    record {
-      good = accept-shorter most_marks most_short s c.requires.good c.if-strip-gt-MOST_SHORT.false;
-      room = full-room s before (entry-accepted most_marks s c.requires.good) full c.requires.room;
-    }
+    omega (arith, full-room s before (entry-accepted most_marks s c.requires.good) full c.requires.room)
+
+pub invariant_of-put_short : goal.invariant_of-put_short
+invariant_of-put_short c =
+    record { good = accept-shorter most_marks most_short (lists_of c.args.strip) c.requires.good c.if-strip-gt-MOST_SHORT.false }
 
 pub returns : goal.returns
 returns c =

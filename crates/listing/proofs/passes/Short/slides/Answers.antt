@@ -1,4 +1,4 @@
--- `listing::passes::slides` meets its contract: by what the slide pass says.
+-- By what the slide pass says.
 use mathlib.Core.Path.{◌≡◌, ◌∙◌}
 use native.Mathlib.Omega.{arith}
 use native.Mathlib.Nat.{le_refl}
@@ -13,7 +13,7 @@ use Rattle.geometry.proofs.Accepted.{entry-accepted, accept-pass}
 use Rattle.slide.specs.Slide.{SlideLent, slide_lent, slide_checks, work_named}
 use Rattle.listing.specs.Text.{listing_gap}
 use Rattle.listing.proofs.PassAnswers.{slide-told}
-use Rattle.listing.proofs.passes.slides.Goals as goal
+use Rattle.listing.proofs.passes.Short.slides.Goals as goal
 
 -- what is lent: zeros
 abbrev lent : SlideLent
@@ -28,5 +28,5 @@ passed s entered =
 
 pub returns : goal.returns
 returns c =
-    let s = lists_of c.args.strip in
-    rw (c.is_ok.ensures.value ∙ ok-is-zero c.slide.result) (slide-told s lent _ _ c.slide.ensures (passed s c.requires))
+    let s = lists_of c.args.self.strip in
+    rw (c.is_ok.ensures.value ∙ ok-is-zero c.slide.result) (slide-told s lent _ _ c.slide.ensures (passed s c.args.self.good))

@@ -1,4 +1,4 @@
--- `listing::passes::choose` meets its contract: by what the best pass says.
+-- By what the best pass says.
 use mathlib.Core.Path.{◌≡◌, refl, ◌∙◌, ap}
 use mathlib.Core.List.{List}
 use native.Mathlib.Omega.{arith}
@@ -16,7 +16,7 @@ use Rattle.best.specs.declared.choice.Choice.{Choice}
 use Rattle.best.specs.Best.{BestLent, best_lent, best_answer, best_checks, work_named}
 use Rattle.listing.specs.Text.{listing_gap}
 use Rattle.listing.proofs.PassAnswers.{best-found}
-use Rattle.listing.proofs.passes.choose.Goals as goal
+use Rattle.listing.proofs.passes.Short.choose.Goals as goal
 
 -- what is lent beside the left-out list: positions and a work area of zeros
 abbrev lent_to : List ℕ → BestLent
@@ -38,11 +38,11 @@ chosen (Err r) zero = absurd (refusal-positive r zero)
 
 pub unwrap-requires : goal.unwrap-requires
 unwrap-requires c =
-    let all = passed (lists_of c.args.strip) c.args.left_out.now c.requires.good c.requires.room in
+    let all = passed (lists_of c.args.self.strip) c.args.left_out.now c.args.self.good c.requires in
     chosen c.best.result (c.best.ensures.number_is ∙ ap number_of all)
 
 pub returns : goal.returns
 returns c =
-    let s = lists_of c.args.strip in
+    let s = lists_of c.args.self.strip in
     let listed = c.args.left_out.now in
-    rw c.unwrap.ensures at (best-found s (lent_to listed) _ _ c.best.ensures (passed s listed c.requires.good c.requires.room))
+    rw c.unwrap.ensures at (best-found s (lent_to listed) _ _ c.best.ensures (passed s listed c.args.self.good c.requires))
