@@ -14,11 +14,11 @@ const STDOUT_FILENO: i32 = 1;
 // More than any job has, as `job-most-is` of crate job shows: what follows is not judged.
 const INPUT_MOST: usize = 30000;
 
-// Puts the listing of a job into an output that no listing exceeds, and gives its length.
+// Puts the listing of a job into an output that no listing exceeds, so that it is never refused, and gives its length.
 fn list(job: &[u8], output: &mut [u8; TEXT_MOST]) -> usize
     ensures { Printed job.now output.new result }
 {
-    listing::listing(job, output).unwrap_or(0)
+    listing::listing(job, output).unwrap()
 }
 
 fn main() {

@@ -16,6 +16,7 @@ use Rattle.geometry.specs.Placing.{best_sum}
 use Rattle.geometry.specs.Refusal.{refusal_number}
 use Rattle.geometry.specs.Pass.{written}
 use Rattle.geometry.proofs.Split.{by-leb}
+use Rattle.geometry.proofs.Verdicts.{refusal-positive}
 use Rattle.geometry.proofs.Accepted.{Accepted, entry-accepted, length-marks}
 use Rattle.geometry.proofs.Best.{free-length}
 use Rattle.geometry.proofs.Lent.{used-is, used-within}
@@ -27,8 +28,7 @@ use Rattle.listing.specs.Text.{listing_gap, decimal, marks_word, refused_word, m
 use Rattle.listing.specs.Text.{too_long_lines, short_lines, strip_lines, listing_of}
 use Rattle.listing.proofs.Lengths.{spaced-most, line-most, full-most, slide-most, best-most}
 use Rattle.listing.specs.Listing.{said_by, TextOf, text_most, ListingContract}
-use Rattle.std.specs.Prelude.{Result, Ok, Err}
-use Rattle.std.specs.Result.{result_unwrap_or}
+use Rattle.std.specs.Prelude.{Result, Ok, Err, IsOk}
 use Rattle.geometry.specs.declared.refusal.Refusal.{Refusal}
 use Rattle.listing.specs.Listing.{Listed, listed_answer}
 
@@ -118,7 +118,7 @@ text-used {job} {entry} call bytes room =
     let some = text-some job call.text bytes call.text_of in
     (used-is call.text entry done.2 done.1, used-within call.text entry done.2 done.1, omega (arith, some, done.1))
 
--- what a caller has as the length where it takes 0 at a refusal
-pub length-given : (answer : Result ℕ Refusal) → result_unwrap_or answer 0 ≡ (listed_answer answer).length
-length-given (Ok length) = refl
-length-given (Err r) = refl
+-- and such a call gives a length
+pub listed-given : (answer : Result ℕ Refusal) → (listed_answer answer).number ≡ 0 → IsOk answer
+listed-given (Ok length) zero = refl
+listed-given (Err r) zero = absurd (refusal-positive r zero)
