@@ -2,7 +2,7 @@
 -- and its list give the end of the full line, that of the slide pass whether it fits, and the best pass gives the sum and the numbers of
 -- some choice of the greatest sum.
 use mathlib.Core.Path.{◌≡◌, refl, sym, ◌∙◌, ap, ap₂}
-use mathlib.Core.Bool.{Bool, true, false}
+use mathlib.Core.Bool.{Bool, true, false, false≢true}
 use mathlib.Core.List.{List, ◌∷◌, map}
 use mathlib.Core.Option.{Option, none, some}
 use Prim.Native.Nat.{ℕ, ◌≤◌}
@@ -14,8 +14,10 @@ use Rattle.geometry.specs.Strip.{Strip, marks_of, most_marks}
 use Rattle.geometry.specs.Position.{Position, code}
 use Rattle.geometry.specs.Placing.{first_placing}
 use Rattle.geometry.specs.Sliding.{slides_whole}
-use Rattle.geometry.specs.Refusal.{Verdict, accepted, number_of}
+use Rattle.geometry.specs.Refusal.{Verdict, accepted, number_of, answer_number}
+use Rattle.geometry.specs.declared.refusal.Refusal.{Refusal}
 use Rattle.geometry.specs.Pass.{written}
+use Rattle.geometry.proofs.Verdicts.{refusal-positive}
 use Rattle.geometry.proofs.Accepted.{Accepted, length-marks}
 use Rattle.geometry.proofs.Best.{free-length}
 use Rattle.geometry.proofs.Whole.{found-placing}
@@ -24,10 +26,19 @@ use Rattle.full.specs.Full.{FullLent, full_checks, full_verdict, positions_after
 use Rattle.slide.specs.Slide.{SlideLent, slide_checks, slide_verdict, SlideContract}
 use Rattle.best.specs.LeftOut.{left_out_lem}
 use Rattle.best.specs.Best.{BestAnswer, BestLent, best_checks, AcceptedAnswer, BestContract}
-use Rattle.std.specs.Prelude.{None, Some}
+use Rattle.std.specs.Prelude.{None, Some, Result, Ok, Err, is_ok}
 use Rattle.std.specs.Borrow.{Bor}
 use Rattle.listing.specs.Text.{listing_gap, spaced, none_word, full_tail}
 use Rattle.listing.specs.inner.Lines.{FullFound, BestFound}
+
+-- an answer that is there has the number 0, and one that is not has another
+pub some-is-zero : {A : Type 0} (answer : Result A Refusal) → is_ok answer ≡ true → answer_number answer ≡ 0
+some-is-zero (Ok value) e = refl
+some-is-zero (Err r) e = absurd (false≢true e)
+
+pub none-is-refused : {A : Type 0} (answer : Result A Refusal) → is_ok answer ≡ false → answer_number answer ≡ 0 → ⊥
+none-is-refused (Ok value) e zero = absurd (false≢true (sym e))
+none-is-refused (Err r) e zero = refusal-positive r zero
 
 -- the full pass
 module _ (s : Strip) (lent left : FullLent) (number : ℕ) (call : FullContract s listing_gap lent left number)

@@ -23,10 +23,8 @@ pub fn fits<'a>(strip: Strip, positions: &'a mut [u8]) -> Option<&'a [u8]>
     ensures { FullFound (lists_of strip.entry) result }
 {
     let mut work = [0i16; full::WORK_NAMED];
-    match full::full(strip, GAP, positions, &mut work) {
-        Ok(()) => Some(&positions[..strip.places.len()]),
-        Err(_) => None,
-    }
+    full::full(strip, GAP, positions, &mut work).ok()?;
+    Some(&positions[..strip.places.len()])
 }
 
 // A short strip, which the slide and the best pass take too.
