@@ -34,10 +34,10 @@ pub fn best_against_full(
 {
     let placed = full::full(strip, gap, full_positions, full_work);
     let chosen = best::best(strip, gap, best_positions, left_out, best_work);
-    let sum = match chosen {
-        Ok(choice) => choice.sum,
-        Err(_) => return None,
+    let Ok(choice) = chosen else {
+        return None;
     };
+    let sum = choice.sum;
     match placed {
         Ok(()) => Some(Comparison { fits: true, sum }),
         Err(refusal) => match refusal {

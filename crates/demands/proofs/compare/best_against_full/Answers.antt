@@ -9,4 +9,4 @@ returns-in-Ok-placed c = full-fits (record { full-ran = c.in-Ok-placed.ensures; 
 
 pub returns-in-NoPlacing : goal.returns-in-NoPlacing
 returns-in-NoPlacing c =
-    full-finds-none (record { full-ran = c.in-Err-placed.ensures; best-ran = c.in-Ok.ensures }) refl (ap refusal_number c.in-NoPlacing.is)
+    full-finds-none (record { full-ran = c.in-Err.ensures; best-ran = c.in-Ok.ensures }) refl (ap refusal_number c.in-NoPlacing.is)
