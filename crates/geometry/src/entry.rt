@@ -52,7 +52,7 @@ fn rises(x: i16, y: i16) -> bool
     x < y
 }
 
-// Whether each place is below the next.
+// Whether each place is below the next. The list is looked at whole here too: `is_sorted_by` stops at the first that is not.
 fn places_rise(places: &[i16]) -> bool
     ensures { result ≡ rising places.now }
 {
