@@ -16,8 +16,7 @@ use Rattle.geometry.specs.Dot.{empty_reach}
 use Rattle.geometry.specs.Strip.{Strip, marks_of, most_marks}
 use Rattle.geometry.specs.Position.{Position}
 use Rattle.geometry.specs.Placing.{first_placing}
-use Rattle.geometry.specs.Refusal.{accepted, refused, number_of, refusal_number}
-use Rattle.geometry.specs.declared.refusal.Refusal.{Refusal}
+use Rattle.geometry.specs.Refusal.{accepted, number_of, refusal_number}
 use Rattle.geometry.specs.declared.refusal.Refusal.TheVariants.{NoPlacing}
 use Rattle.geometry.specs.Pass.{cleared}
 use Rattle.geometry.specs.inner.At.{mark_at}
@@ -34,10 +33,6 @@ use Rattle.full.proofs.First.{first-placing-is}
 use Rattle.full.proofs.Fits.{fits-by-count}
 
 module _ (s : Strip) (g : ℕ) (entry : FullLent) where
-  -- a call that the checks refuse meets the contract: their number, and nothing changed
-  pub refused-call : (r : Refusal) → full_checks s g entry ≡ refused r → FullContract s g entry entry (refusal_number r)
-  refused-call r e = record { number_is = rw e refl; positions-are = rw e refl; work-is = rw e refl }
-
   module _ (is-accepted : full_checks s g entry ≡ accepted) where
     -- past the checks the lent lists are long enough
     accepted-parts : PassAccepted most_marks s g (length entry.positions) work_named (length entry.work)

@@ -7,7 +7,6 @@ use Prim.Native.Nat.{ℕ, ◌+◌, ◌<◌}
 use native.Mathlib.Omega.{arith}
 use lib.IntN.{ℤ, pos, negsuc}
 use lib.Signed.{mag}
-use lib.ListN.{length, get_or}
 use mir.Syntax.{w16}
 use mir.Val.{to_z, of_z}
 use Rattle.geometry.specs.Dot.{dot}
@@ -19,7 +18,7 @@ use Rattle.geometry.specs.Overlap.{left_end, right_end}
 use Rattle.geometry.specs.inner.Each.{Each}
 use Rattle.geometry.proofs.Split.{one-to}
 use Rattle.geometry.proofs.Dots.{fetched, range-dots}
-use Rattle.geometry.proofs.Accepted.{every-at, first_good, rest-good}
+use Rattle.geometry.proofs.Accepted.{first_good, rest-good}
 use Rattle.full.specs.inner.SixteenBits.{LeftEdge, RightEnd, Reach, Carried, is_reach, is_empty, EndsHeld, Narrow}
 use Rattle.full.specs.inner.OneMark.{Formed}
 use Rattle.full.specs.inner.Table.{Checked}
@@ -52,8 +51,8 @@ tested z l g place-good length-good narrow =
     record { place-held = record { not-less = placed.low; not_more = placed.high }; length-short = short; gap-narrow = narrow }
 
 -- the labels of a strip's marks
-lists-held : (g : ℕ) → Narrow g → (zs : List ℤ) (ls ws : List ℕ) → list_all place_in_range_lem zs ≡ true → list_all length_in_range_lem ls ≡ true
-    → Each (EndsHeld g) (marks_of_lists zs ls ws)
+lists-held : (g : ℕ) → Narrow g → (zs : List ℤ) (ls ws : List ℕ)
+    → list_all place_in_range_lem zs ≡ true → list_all length_in_range_lem ls ≡ true → Each (EndsHeld g) (marks_of_lists zs ls ws)
 unfolding marks_of_lists
 lists-held g h [] ls ws p q = tt
 lists-held g h (z ∷ zs) [] ws p q = tt
@@ -70,14 +69,6 @@ marks-held g s h p q = lists-held g h s.places s.lengths s.weights p q
 pub checked-held : {places : List ℤ} {lengths : List ℕ} {g : ℕ} → Checked places lengths g → (weights : List ℕ)
     → Each (EndsHeld g) (marks_of (strip places lengths weights))
 checked-held checked weights = marks-held _ (strip _ _ weights) checked.gap-narrow checked.places-good checked.lengths-good
-
--- each mark of theirs is in its ranges
-pub mark-formed : {places : List ℤ} {lengths : List ℕ} {g : ℕ} → Checked places lengths g → (k : ℕ) → k < length places
-    → Formed (get_or places k (pos 0)) (get_or lengths k 0) g
-mark-formed {lengths = lengths} checked k few =
-    let inside : k < length lengths = let same = checked.same-lengths in omega arith in
-    tested _ _ _ (every-at place_in_range_lem _ (pos 0) k checked.places-good few)
-    (every-at length_in_range_lem _ 0 k checked.lengths-good inside) checked.gap-narrow
 
 -- 16 bits hold a number whose dot is a left edge's
 edge-mag : (z : ℤ) → LeftEdge (dot z) → mag z < 32768

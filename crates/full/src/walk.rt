@@ -71,8 +71,8 @@ fn step(before: Sides<i16>, mark: Mark, left_to_other: [i16; 3]) -> Taken
     }
 }
 
-// Writes the position of every mark. The step is handed three numbers of the mark's row, each read at its place: a slice of them would
-// need its length proved at every step.
+// Writes the position of every mark. Three numbers of its row are read one by one: a slice of the row would want a length in the step's
+// contract.
 pub fn walk(marks: Marks, work: &[i16], positions: &mut [u8])
     requires { WalkReady marks.places.now marks.lengths.now marks.gap work.now positions.old }
     ensures { Walked marks.entry.places.now marks.entry.lengths.now marks.entry.gap positions.old positions.new }

@@ -6,11 +6,10 @@ use native.Mathlib.Omega.{arith}
 use lib.IntN.{pos}
 use lib.ListN.{get_or}
 use Rattle.geometry.specs.Dot.{dot}
-use Rattle.geometry.specs.Position.{rightward, leftward}
 use Rattle.geometry.proofs.Dots.{back, fetched}
-use Rattle.full.specs.inner.SixteenBits.{Stored}
+use Rattle.full.specs.inner.SixteenBits.{LeftEdge, Stored}
 use Rattle.full.proofs.StoredOnce.{row-held}
-use Rattle.full.proofs.EndsHeld.{formed-ends, edge-back}
+use Rattle.full.proofs.EndsHeld.{edge-back}
 use Rattle.full.proofs.Candidates.{candidates-by-test}
 use Rattle.full.proofs.SixteenBits.{candidates-stored}
 use Rattle.full.proofs.kept.greatest.Goals as goal
@@ -20,7 +19,8 @@ returns c =
     let next = c.args.next in
     let row = c.args.kept.reaches in
     let left = c.left_edge-left.result in
-    let place-held = (formed-ends next.place next.length next.gap 0 next.formed).left-edge rightward in
+    let left-held = rw c.left_edge-left.ensures.0 at c.left_edge-left.ensures.1 in
+    let place-held : LeftEdge (dot next.place) = let formed = next.formed in omega arith in
     let held = row-held row c.args.kept.held in
     let is = rw (
       fetched c.if_passed-here.result c.if_passed-here.type_inv,
@@ -45,7 +45,6 @@ returns c =
       c.left_edge-left.ensures.0,
     )
     at c.larger.ensures in
-    let all = is ∙ sym (candidates-by-test (dot c.args.reach) (dot next.place - next.length) (dot next.place)
-    (dot (get_or row 0 (pos 0))) (dot (get_or row 2 (pos 0))) (omega arith)) in
-    rw (fetched c.larger.result c.larger.type_inv)
-    (all, subst Stored (sym all) (candidates-stored _ _ _ _ _ ((formed-ends next.place next.length next.gap 0 next.formed).left-edge leftward) place-held held.0 held.1.1.0))
+    let of-all = is ∙ sym (candidates-by-test (dot c.args.reach) (dot next.place - next.length) (dot next.place) _ _ (omega arith)) in
+    let stored = candidates-stored (dot c.args.reach) _ _ _ _ left-held place-held held.0 held.1.1.0 in
+    rw (fetched c.larger.result c.larger.type_inv) (of-all, subst Stored (sym of-all) stored)

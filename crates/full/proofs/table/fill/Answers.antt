@@ -12,7 +12,8 @@ invariant_of-kept c = record { held = ∣ unbounded-held ∣₁; counted = refl 
 
 pub loop-i-init : goal.loop-i-init
 loop-i-init c =
-    (filling-last _ _ _ c.args.marks.checked _ c.requires _ _ (omega (arith, c.in-Some.ensures)) c.store.ensures, c.at-next.ensures.place, c.at-next.ensures.label)
+    let filling = filling-last _ _ _ c.args.marks.checked _ c.requires _ _ (omega (arith, c.in-Some.ensures)) c.store.ensures in
+    (filling, c.at-next.ensures.place, c.at-next.ensures.label)
 
 pub returns-then-kept-eq0 : goal.returns-then-kept-eq0
 returns-then-kept-eq0 c =

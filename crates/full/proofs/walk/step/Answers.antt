@@ -37,8 +37,9 @@ module _ (g : ℕ) (a b place : ℤ) (length : ℕ) (near far : ℤ) (own : Reac
   by_tests false false false weight = (refl, own.far-is)
 
   -- and reaches of the walk
-  stepped : (first second third : ℤ) (two three one : Bool) (position : Position) (a' b' : ℤ) → Formed place length g
-      → StepReady a b first second third → position ≡ first_passed_lem two three one → dot a' ≡ above_by two three one → dot b' ≡ below_by two three one
+  stepped : (first second third : ℤ) (two three one : Bool) (position : Position) (a' b' : ℤ)
+      → Formed place length g → StepReady a b first second third → position ≡ first_passed_lem two three one
+      → dot a' ≡ above_by two three one → dot b' ≡ below_by two three one
       → Stepped g a b place length (first_passed_lem two three one) position a' b'
   stepped first second third two three one position a' b' formed ready number up down =
       let next = by_tests two three one in
