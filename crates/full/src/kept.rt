@@ -11,7 +11,8 @@ use crate::passed::if_passed;
 use geometry::order::{at_most, larger};
 use geometry::outside::NO_REACH;
 
-// The reaches that the four positions, in the order 2, 3, 1, 4, leave to the other side, and how many of them are not NO_REACH.
+// The reaches that the four positions, in the order 2, 3, 1, 4, leave to the other side, and how many of them are not NO_REACH. A ghost field
+// has one proof at most, hence the bars; `row-held` (proofs/StoredOnce.antt) opens them.
 #[derive(Clone, Copy)]
 pub struct Kept {
     pub reaches: [i16; 4],
@@ -28,9 +29,7 @@ fn greatest(reach: i16, next: Mark, kept: Kept) -> i16
 {
     let place = next.place;
     let left = next.left_edge();
-    let reaches = kept.reaches;
-    let kept_left = reaches[0];
-    let kept_right = reaches[2];
+    let [kept_left, _, kept_right, _] = kept.reaches;
     let either = larger(kept_left, kept_right);
     let right_here = if_passed(at_most(reach, place), kept_right, NO_REACH);
     let here = if_passed(at_most(reach, left), either, right_here);
