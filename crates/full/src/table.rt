@@ -30,16 +30,16 @@ pub fn fill(marks: Marks, work: &mut [i16]) -> u8
     requires { work_named ≤ length work.old }
     ensures { Filled marks.entry.places.now marks.entry.lengths.now marks.entry.gap work.old work.new result }
 {
+    let Some(last) = marks.places.len().checked_sub(1) else {
+        return 4;
+    };
+    // Carried from turn to turn: with the next mark read again the pass took 1.24 times as long.
+    let mut next = marks.at(last);
     let mut kept = Kept {
         reaches: [NO_BOUND; 4],
         count: 4,
     };
-    let Some(last) = marks.places.len().checked_sub(1) else {
-        return kept.count;
-    };
     store(work, last, kept);
-    // Carried from turn to turn: with the next mark read again the pass took 1.24 times as long.
-    let mut next = marks.at(last);
     for i in (0..last).rev() {
         let mark = marks.at(i);
         kept = kept_before(mark, next, kept);
