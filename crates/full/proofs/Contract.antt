@@ -16,8 +16,7 @@ use Rattle.geometry.specs.Dot.{empty_reach}
 use Rattle.geometry.specs.Strip.{Strip, marks_of, most_marks}
 use Rattle.geometry.specs.Position.{Position}
 use Rattle.geometry.specs.Placing.{first_placing}
-use Rattle.geometry.specs.Refusal.{accepted, refused, number_of, refusal_number}
-use Rattle.geometry.specs.declared.refusal.Refusal.{Refusal}
+use Rattle.geometry.specs.Refusal.{accepted, number_of, refusal_number}
 use Rattle.geometry.specs.declared.refusal.Refusal.TheVariants.{NoPlacing}
 use Rattle.geometry.specs.Pass.{cleared}
 use Rattle.geometry.specs.inner.At.{mark_at}
@@ -28,16 +27,12 @@ use Rattle.geometry.proofs.Accepted.{Accepted, PassAccepted, pass-accepted, acce
 use Rattle.full.specs.Full.{work_named, FullLent, full_checks, FullContract, full_verdict, positions_after}
 use Rattle.full.specs.inner.Rest.{can, walk}
 use Rattle.full.specs.inner.SixteenBits.{EndsHeld, Narrow}
-use Rattle.full.specs.inner.Table.{Ready, Filled, WalkReady, Walked}
-use Rattle.full.proofs.EndsHeld.{marks-held}
+use Rattle.full.specs.inner.Table.{Checked, Filled, WalkReady, Walked}
+use Rattle.full.proofs.EndsHeld.{checked-held}
 use Rattle.full.proofs.First.{first-placing-is}
 use Rattle.full.proofs.Fits.{fits-by-count}
 
 module _ (s : Strip) (g : ℕ) (entry : FullLent) where
-  -- a call that the checks refuse meets the contract: their number, and nothing changed
-  pub refused-call : (r : Refusal) → full_checks s g entry ≡ refused r → FullContract s g entry entry (refusal_number r)
-  refused-call r e = record { number_is = rw e refl; positions-are = rw e refl; work-is = rw e refl }
-
   module _ (is-accepted : full_checks s g entry ≡ accepted) where
     -- past the checks the lent lists are long enough
     accepted-parts : PassAccepted most_marks s g (length entry.positions) work_named (length entry.work)
@@ -49,27 +44,27 @@ module _ (s : Strip) (g : ℕ) (entry : FullLent) where
     narrow : Narrow g
     narrow = let gap = accepted-parts.gap-narrow in omega arith
 
-    -- the work area may be any that is as long as the lent one
-    pub ready-to-fill : (work : List ℤ) → length work ≡ length entry.work → Ready s.places s.lengths g work
-    ready-to-fill work long =
-        let roomy = accepted-parts.work-long in
+    pub checked : Checked s.places s.lengths g
+    checked =
         record {
           same-lengths = good.same-lengths;
           few = good.few;
           places-good = good.places-good;
           lengths-good = good.lengths-good;
           gap-narrow = narrow;
-          roomy = omega arith;
         }
+
+    pub roomy : work_named ≤ length entry.work
+    roomy = accepted-parts.work-long
 
     module _ (table : List ℤ) (count : ℕ) (filled : Filled s.places s.lengths g entry.work table count) where
       -- a table whose first mark keeps something is what the walk asks for
       pub ready-to-walk : length table ≡ length entry.work → (count ≡ 0 → ⊥) → WalkReady s.places s.lengths g table entry.positions
       ready-to-walk long kept =
           record {
-            ready = ready-to-fill table long;
             rows = filled.rows kept;
             held = filled.held kept;
+            roomy = omega (arith, roomy);
             places-for-all = accepted-parts.list-long;
           }
 
@@ -80,7 +75,7 @@ module _ (s : Strip) (g : ℕ) (entry : FullLent) where
           ⊎_elim
           (λ (h : 0 < length s.places).
           let first : marks_of s ≡ mark_at s 0 ∷ drop 1 (marks_of s) = marks-from s 0 good.same-lengths good.same-weights h in
-          let held = subst (Each (EndsHeld g)) first (marks-held g s narrow good.places-good good.lengths-good) in
+          let held = subst (Each (EndsHeld g)) first (checked-held checked s.weights) in
           ap (can g empty_reach empty_reach) first ∙ fits-by-count g (mark_at s 0) (drop 1 (marks_of s)) held
           ∙ ap (λ (n : ℕ). not (eqb n 0)) (sym (filled.first_count h s.weights good.same-weights)))
           (λ (h : length s.places ≤ 0).

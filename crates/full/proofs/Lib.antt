@@ -1,5 +1,6 @@
 -- Laws that belong to no one function, in reading order.
 pub mod Candidates
+pub mod StoredOnce
 pub mod EndsHeld
 pub mod SixteenBits
 pub mod Within

@@ -1,16 +1,15 @@
 -- None of the pass's numbers leaves signed 16 bits. A number of the table is one of the candidates, and these are numbers of the next row, left
 -- edges of the next mark, or none; so by induction from the last mark, which leaves no bound, each is a left edge or one of the two outside.
 -- The walk begins beside two sides without labels, and at each mark one of its reaches becomes a right end plus the gap.
-use mathlib.Core.Path.{◌≡◌, refl, sym, subst}
+use mathlib.Core.Path.{◌≡◌, refl}
 use mathlib.Core.Bool.{Bool, true, false, cond}
 use mathlib.Core.Logic.{⊎_elim}
 use mathlib.Core.List.{List, [], ◌∷◌}
 use Prim.Native.Nat.{ℕ, ◌+◌, ◌≤◌, ◌<◌, max}
 use native.Mathlib.Omega.{arith}
 use lib.Dec.{leb}
-use lib.IntN.{ℤ}
 use lib.ListN.{drop}
-use Rattle.geometry.specs.Dot.{dot, empty_reach}
+use Rattle.geometry.specs.Dot.{empty_reach}
 use Rattle.geometry.specs.Mark.{Mark}
 use Rattle.geometry.specs.Strip.{marks_of, most_marks}
 use Rattle.geometry.specs.Position.{above, below, leftward, rightward, Position, unlabelled, at}
@@ -26,7 +25,6 @@ use Rattle.full.specs.inner.Row.{candidates, greatest, row_of}
 use Rattle.full.specs.inner.Rest.{pick, steps}
 use Rattle.full.specs.inner.SixteenBits.{LeftEdge, Stored, is_edge, is_none, is_unbounded, Carried, is_reach, is_empty, EndsHeld}
 use Rattle.full.specs.inner.SixteenBits.{Number, is_left_edge, is_right_end, is_stored, is_carried, Between, least_signed, most_signed, SixteenBits}
-use Rattle.full.specs.inner.OneMark.{GreatestReady, GreatestFound}
 use Rattle.full.proofs.EndsHeld.{marks-held}
 
 -- of two numbers of the table the greater is one, and so is one of them or none, as a test says
@@ -47,13 +45,6 @@ pub candidates-stored : (t left right kl kr : ℕ) → LeftEdge left → LeftEdg
 candidates-stored t left right kl kr hl hr sl sr =
     stored-max _ _ (stored-max _ _ (stored-if (leb t left) kl sl) (stored-if (leb t right) kr sr))
     (stored-max _ _ (stored-if (leb t kl) left (is_edge hl)) (stored-if (leb t kr) right (is_edge hr)))
-
-pub greatest-found : {reach place left kept_left kept_right result : ℤ} → GreatestReady reach place left kept_left kept_right
-    → dot result ≡ candidates (dot reach) (dot left) (dot place) (dot kept_left) (dot kept_right)
-    → GreatestFound reach place left kept_left kept_right result
-greatest-found b e =
-    let held = candidates-stored _ _ _ _ _ b.left-held b.place-held b.kept-left-held b.kept-right-held in
-    record { is = e; held = subst Stored (sym e) held }
 
 -- and by induction on the marks each number of each row
 greatest-stored : (g t : ℕ) (ms : List Mark) → Each (EndsHeld g) ms → Stored (greatest g t ms)

@@ -21,8 +21,8 @@ use Rattle.full.specs.inner.Rest.{pick, steps, walk, pick_by_row}
 use Rattle.full.specs.inner.Row.{row_of}
 use Rattle.full.specs.inner.SixteenBits.{Carried, is_empty, EndsHeld}
 use Rattle.full.specs.inner.OneMark.{StepReady, Stepped}
-use Rattle.full.specs.inner.Table.{AnyWeights, row_at, WalkReady, Walked}
-use Rattle.full.proofs.EndsHeld.{marks-held, mark-formed}
+use Rattle.full.specs.inner.Table.{AnyWeights, row_at, Checked, WalkReady, Walked}
+use Rattle.full.proofs.EndsHeld.{checked-held}
 use Rattle.full.proofs.Rows.{row_number}
 use Rattle.full.proofs.RowPicks.{row-picks}
 
@@ -31,9 +31,8 @@ abbrev pub numbers_from : ℕ → Strip → ℕ → ℕ → ℕ → List ℕ
 numbers_from g s i a b = map code (walk g a b (drop i (marks_of s)))
 
 -- what holds before the mark with index i
-pub record Walking (places : List ℤ) (lengths : List ℕ) (g : ℕ) (work : List ℤ) (entry positions : List ℕ)
+pub record Walking (places : List ℤ) (lengths : List ℕ) (g : ℕ) (entry positions : List ℕ)
     (above below : ℤ) (i : ℕ) : Type 0 where
-  pub ready : WalkReady places lengths g work entry
   pub inside : i ≤ length places
   pub long : length positions ≡ length entry
   pub above-held : Carried (dot above)
@@ -42,13 +41,13 @@ pub record Walking (places : List ℤ) (lengths : List ℕ) (g : ℕ) (work : Li
       (λ s. numbers_from g s 0 empty_reach empty_reach ≡ take i positions ++ numbers_from g s i (dot above) (dot below))
   pub untouched : drop i positions ≡ drop i entry
 
-module _ (places : List ℤ) (lengths : List ℕ) (g : ℕ) (work : List ℤ) (entry : List ℕ) where
+module _ (places : List ℤ) (lengths : List ℕ) (g : ℕ) (checked : Checked places lengths g) (work : List ℤ) (entry : List ℕ)
+    (ready : WalkReady places lengths g work entry) where
   -- before the first mark nothing is written and both sides are empty
-  pub walking_start : (above below : ℤ) → dot above ≡ empty_reach → dot below ≡ empty_reach → WalkReady places lengths g work entry
-      → Walking places lengths g work entry entry above below 0
-  walking_start above below above-empty below-empty ready =
+  pub walking_start : (above below : ℤ) → dot above ≡ empty_reach → dot below ≡ empty_reach
+      → Walking places lengths g entry entry above below 0
+  walking_start above below above-empty below-empty =
       record {
-        ready = ready;
         inside = omega arith;
         long = refl;
         above-held = is_empty above-empty;
@@ -57,7 +56,7 @@ module _ (places : List ℤ) (lengths : List ℕ) (g : ℕ) (work : List ℤ) (e
         untouched = refl;
       }
 
-  module _ (positions : List ℕ) (above below : ℤ) (i : ℕ) (w : Walking places lengths g work entry positions above below i) where
+  module _ (positions : List ℕ) (above below : ℤ) (i : ℕ) (w : Walking places lengths g entry positions above below i) where
     -- the place of the mark here, and a number of its row
     abbrev here : ℤ
     here = get_or places i (pos 0)
@@ -72,15 +71,13 @@ module _ (places : List ℤ) (lengths : List ℕ) (g : ℕ) (work : List ℤ) (e
     module _ (more : i < length places) where
       -- what the step at the mark here asks
       pub step-ready : let number : ℕ → ℤ = λ n. get_or work n (pos 0) in
-          StepReady above below here (get_or lengths i 0) g (number (4 * i)) (number (4 * i + 1)) (number (4 * i + 2))
+          StepReady above below (number (4 * i)) (number (4 * i + 1)) (number (4 * i + 2))
       step-ready =
-          let good = w.ready.ready in
           let first : 4 * i + 0 ≡ 4 * i = omega arith in
-          let held = w.ready.held i in
+          let held = ready.held i in
           record {
             above-held = w.above-held;
             below-held = w.below-held;
-            formed = mark-formed places lengths g work good i more;
             row-held = (rw first at (held 0 more (omega arith)), (held 1 more (omega arith), (held 2 more (omega arith), tt)));
           }
 
@@ -95,19 +92,16 @@ module _ (places : List ℤ) (lengths : List ℕ) (g : ℕ) (work : List ℤ) (e
 
         -- what is left is the mark here and those behind it, their ends all in range
         from-here : drop i (marks_of whole) ≡ mark_at whole i ∷ behind
-        from-here = rw (add-one i) (marks-from whole i w.ready.ready.same-lengths same more)
+        from-here = rw (add-one i) (marks-from whole i checked.same-lengths same more)
 
         held-here : Each (EndsHeld g) (mark_at whole i ∷ behind)
-        held-here =
-            let good = w.ready.ready in
-            subst (Each (EndsHeld g)) from-here
-            (each-drop (EndsHeld g) i (marks_of whole) (marks-held g whole good.gap-narrow good.places-good good.lengths-good))
+        held-here = subst (Each (EndsHeld g)) from-here (each-drop (EndsHeld g) i (marks_of whole) (checked-held checked ws))
 
         -- the row in the work area is the mark's, so it picks what the definition picks
         taken_is : taken ≡ pick g (dot above) (dot below) (mark_at whole i) behind
         taken_is =
             let row = row_of g (mark_at whole i) behind in
-            let stored : map dot (row_at work i) ≡ row = w.ready.rows ws same i (omega arith) more in
+            let stored : map dot (row_at work i) ≡ row = ready.rows ws same i (omega arith) more in
             let first : 4 * i + 0 ≡ 4 * i = omega arith in
             rw (
               rw first at (row_number work i 0 row stored (omega arith)),
@@ -126,12 +120,11 @@ module _ (places : List ℤ) (lengths : List ℕ) (g : ℕ) (work : List ℤ) (e
             rw (from-here ws same, sym (taken_is ws same), s.position-is, s.above-is weight, s.below-is weight) refl
 
         -- one mark more
-        pub walking-more : Walking places lengths g work entry (set positions i (code position)) above' below' (i + 1)
+        pub walking-more : Walking places lengths g entry (set positions i (code position)) above' below' (i + 1)
         walking-more =
-            let room = w.ready.places-for-all in
+            let room = ready.places-for-all in
             let long = w.long in
             record {
-              ready = w.ready;
               inside = omega arith;
               long = length-set positions i (code position) ∙ long;
               above-held = s.above-held;
@@ -147,11 +140,11 @@ module _ (places : List ℤ) (lengths : List ℕ) (g : ℕ) (work : List ℤ) (e
     pub walking-done : i ≡ length places → Walked places lengths g entry positions
     unfolding steps
     walking-done all ws same =
-        let room = w.ready.places-for-all in
+        let room = ready.places-for-all in
         let long = w.long in
         let s = strip places lengths ws in
         let none_left : drop i (marks_of s) ≡ [] =
-        drop_of_length-le (marks_of s) {i = i} (omega (arith, length-marks s w.ready.ready.same-lengths same)) in
+        drop_of_length-le (marks_of s) {i = i} (omega (arith, length-marks s checked.same-lengths same)) in
         let numbers : take i positions ≡ numbers_from g s 0 empty_reach empty_reach =
         sym (w.so_far ws same ∙ rw none_left (append-nil (take i positions))) in
         written-whole i positions (numbers_from g s 0 empty_reach empty_reach) entry numbers w.untouched

@@ -6,16 +6,19 @@
 // range that specs/inner/SixteenBits.antt states.
 #![tactic(auto)]
 
-mod ends;
 mod kept;
+mod mark;
+mod marks;
 mod passed;
 mod table;
 mod walk;
 
+ghost use Rattle.std.specs.Prelude.{◌≡◌};
 ghost use Rattle.geometry.specs.Strip.{lists_of};
-ghost use Rattle.geometry.specs.Refusal.{answer_number};
-ghost use Rattle.full.specs.Full.{full_lent, FullContract};
+ghost use Rattle.geometry.specs.Refusal.{answer_number, verdict_of};
+ghost use Rattle.full.specs.Full.{full_lent, full_checks, FullContract};
 
+use crate::marks::Marks;
 use geometry::entry::check_pass;
 use geometry::limits::MOST_MARKS;
 use geometry::refusal::Refusal;
@@ -25,12 +28,9 @@ use geometry::work::clear;
 // The part of the work area that is named, and ends as zeros also at 11.
 pub const WORK_NAMED: usize = 20000;
 
-// The first placing of the strip at a gap of so many dots, or 11 if there is none; 6 to 10 or 12 if a check is not passed.
-pub fn full(strip: Strip, gap: u8, positions: &mut [u8], work: &mut [i16]) -> Result<(), Refusal>
-    ensures { FullContract
-        (lists_of strip.entry) gap
-        (full_lent positions.old work.old)
-        (full_lent positions.new work.new) (answer_number result) }
+// The checks on entry: those of a pass that takes 4,000 marks, on these lent lists.
+pub fn check(strip: Strip, gap: u8, positions: &[u8], work: &[i16]) -> Result<(), Refusal>
+    ensures { verdict_of result ≡ full_checks (lists_of strip.entry) gap (full_lent positions.now work.now) }
 {
     check_pass(
         strip,
@@ -39,13 +39,28 @@ pub fn full(strip: Strip, gap: u8, positions: &mut [u8], work: &mut [i16]) -> Re
         positions.len(),
         WORK_NAMED,
         work.len(),
-    )?;
-    let kept = table::fill(strip, gap, work);
+    )
+}
+
+// The first placing of the strip at a gap of so many dots, or 11 if there is none; 6 to 10 or 12 if a check is not passed.
+pub fn full(strip: Strip, gap: u8, positions: &mut [u8], work: &mut [i16]) -> Result<(), Refusal>
+    ensures { FullContract
+        (lists_of strip.entry) gap
+        (full_lent positions.old work.old)
+        (full_lent positions.new work.new) (answer_number result) }
+{
+    check(strip, gap, positions, work)?;
+    let marks = Marks {
+        places: strip.places,
+        lengths: strip.lengths,
+        gap,
+    };
+    let kept = table::fill(marks, work);
     if kept == 0 {
         clear(work, WORK_NAMED, 0);
         return Err(Refusal::NoPlacing);
     }
-    walk::walk(strip, gap, work, positions);
+    walk::walk(marks, work, positions);
     clear(work, WORK_NAMED, 0);
     Ok(())
 }

@@ -6,19 +6,18 @@ ghost use Rattle.full.specs.inner.Rest.{first_passed_lem, pick_by_row};
 ghost use Rattle.full.specs.inner.OneMark.{StepReady, Stepped};
 ghost use Rattle.full.specs.inner.Table.{WalkReady, Walked};
 
-use crate::ends::Mark;
+use crate::mark::Mark;
+use crate::marks::Marks;
 use crate::passed::if_passed;
 use geometry::order::at_most;
 use geometry::outside::EMPTY_REACH;
-use geometry::position::Position;
-use geometry::strip::Strip;
+use geometry::position::{Position, Sides};
 
-// The position taken at a mark, and the reaches above and below after it.
+// The position taken at a mark, and the reaches after it.
 #[derive(Clone, Copy)]
-pub struct Taken {
-    pub position: Position,
-    pub above: i16,
-    pub below: i16,
+struct Taken {
+    position: Position,
+    after: Sides<i16>,
 }
 
 // Whether a label with this left end fits beside its side's reach and leaves the rest possible beside the other side's.
@@ -44,19 +43,18 @@ fn first_passed(two: bool, three: bool, one: bool) -> Position
 }
 
 // One step beside the reaches before it, at a mark whose positions 2, 3 and 1 leave so much to the other side.
-fn step(before: Taken, mark: Mark, gap: u8, left_to_other: [i16; 3]) -> Taken
-    requires { StepReady before.above before.below mark.place mark.length gap
+fn step(before: Sides<i16>, mark: Mark, left_to_other: [i16; 3]) -> Taken
+    requires { StepReady before.above before.below
         (get_or left_to_other 0 (pos 0)) (get_or left_to_other 1 (pos 0)) (get_or left_to_other 2 (pos 0)) }
     ensures { Stepped
-        gap before.above before.below mark.place mark.length
+        mark.gap before.above before.below mark.place mark.length
         (pick_by_row (dot before.above) (dot before.below) (dot mark.place - mark.length) (dot mark.place)
         (dot (get_or left_to_other 0 (pos 0))) (dot (get_or left_to_other 1 (pos 0))) (dot (get_or left_to_other 2 (pos 0))))
-        (position_of result.position) result.above result.below }
+        (position_of result.position) result.after.above result.after.below }
 {
-    let above = before.above;
-    let below = before.below;
+    let Sides { above, below } = before;
     let left = mark.left_edge();
-    let own = mark.reaches(gap);
+    let own = mark.reaches();
     let two = leaves_rest(above, left, below, left_to_other[0]);
     let three = leaves_rest(below, left, above, left_to_other[1]);
     let one = leaves_rest(above, mark.place, below, left_to_other[2]);
@@ -66,29 +64,28 @@ fn step(before: Taken, mark: Mark, gap: u8, left_to_other: [i16; 3]) -> Taken
     let below_rest = if_passed(three, own.near, below_right);
     Taken {
         position: first_passed(two, three, one),
-        above: if_passed(two, own.near, above_rest),
-        below: if_passed(two, below, below_rest),
+        after: Sides {
+            above: if_passed(two, own.near, above_rest),
+            below: if_passed(two, below, below_rest),
+        },
     }
 }
 
-// Writes the position of every mark.
-pub fn walk(strip: Strip, gap: u8, work: &[i16], positions: &mut [u8])
-    requires { WalkReady strip.places.now strip.lengths.now gap work.now positions.old }
-    ensures { Walked strip.entry.places.now strip.entry.lengths.now gap positions.old positions.new }
+// Writes the position of every mark. Three numbers of its row are read one by one: a slice of the row would want a length in the step's
+// contract.
+pub fn walk(marks: Marks, work: &[i16], positions: &mut [u8])
+    requires { WalkReady marks.places.now marks.lengths.now marks.gap work.now positions.old }
+    ensures { Walked marks.entry.places.now marks.entry.lengths.now marks.entry.gap positions.old positions.new }
 {
-    let mut at = Taken {
-        position: Position::Unlabelled,
+    let mut reaches = Sides {
         above: EMPTY_REACH,
         below: EMPTY_REACH,
     };
-    for i in 0..strip.places.len() {
+    for i in 0..marks.places.len() {
         let row = 4 * i;
-        at = step(
-            at,
-            Mark::at(strip, i),
-            gap,
-            [work[row], work[row + 1], work[row + 2]],
-        );
-        positions[i] = u8::from(at.position);
+        let left_to_other = [work[row], work[row + 1], work[row + 2]];
+        let taken = step(reaches, marks.at(i), left_to_other);
+        positions[i] = u8::from(taken.position);
+        reaches = taken.after;
     }
 }

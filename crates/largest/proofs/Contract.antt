@@ -15,8 +15,7 @@ use Rattle.geometry.specs.Lists.{first_of}
 use Rattle.std.specs.List.{list_all}
 use Rattle.geometry.specs.Mark.{most_length, length_in_range_lem}
 use Rattle.geometry.specs.Strip.{Strip, most_marks}
-use Rattle.geometry.specs.Refusal.{accepted, refused, refusal_number}
-use Rattle.geometry.specs.declared.refusal.Refusal.{Refusal}
+use Rattle.geometry.specs.Refusal.{accepted, refusal_number}
 use Rattle.geometry.specs.declared.refusal.Refusal.TheVariants.{NoPlacing}
 use Rattle.geometry.specs.Pass.{cleared}
 use Rattle.geometry.proofs.Split.{both, one-to, by_bool}
@@ -43,11 +42,6 @@ unfolding placing_at
 fits-within g s width = there-within (none_over_lem width s.lengths) _
 
 module _ (s : Strip) (g : ℕ) (entry : FullLent) where
-  -- a call that the checks refuse meets the contract: their number, width 0, and nothing changed
-  pub refused-call : (r : Refusal) → full_checks s g entry ≡ refused r
-      → LargestContract s g entry entry (record { number = refusal_number r; width = 0 })
-  refused-call r e = record { number_is = rw e refl; width_is = rw e refl; positions-are = rw e refl; work-is = rw e refl }
-
   -- the widths so far did not fit: the first that does is among those left
   pub record Trying (lent : FullLent) (width : ℕ) : Type 0 where
     pub least : 1 ≤ width

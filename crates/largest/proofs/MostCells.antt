@@ -1,35 +1,25 @@
 -- The greatest cell count decides whether some length is over 240: at one width a label with more cells is not shorter, so all are within
 -- 240 dots exactly if that one is.
-use mathlib.Core.Path.{◌≡◌, refl, ◌∙◌, ap}
+use mathlib.Core.Path.{◌≡◌, ◌∙◌, ap}
 use mathlib.Core.Bool.{Bool, ◌&&◌}
 use mathlib.Core.List.{List, [], ◌∷◌}
 use mathlib.Core.Logic.{⊎_elim}
-use Prim.Native.Nat.{ℕ, ◌+◌, ◌*◌, ◌≤◌, ◌<◌, max}
+use Prim.Native.Nat.{ℕ, ◌*◌, ◌≤◌, ◌<◌, max}
 use native.Mathlib.Nat.{mul-le-mul_right}
-use native.Mathlib.Numerals.{add-one}
 use native.Mathlib.Omega.{arith}
 use lib.Dec.{leb}
-use lib.ListN.{length, get_or, drop}
-use lib.Seq.{drop-cons, drop-length}
 use borrow.Author.Tests.{le-leb, lt-leb}
+use Rattle.std.specs.List.{fold}
 use Rattle.geometry.specs.Mark.{most_length}
 use Rattle.geometry.proofs.Split.{by-leb, same_test, lt-or-ge}
 use Rattle.largest.specs.Widths.{none_over_lem}
 use Rattle.largest.specs.inner.Cells.{most_of, WithinMost}
 
--- a walk through the cells: the greatest so far and the greatest of what is left
-module _ (cells : List ℕ) (i most : ℕ) (so_far : max most (most_of (drop i cells)) ≡ most_of cells) where
-  pub most-next : i < length cells → max (max most (get_or cells i 0)) (most_of (drop (i + 1) cells)) ≡ most_of cells
-  unfolding most_of
-  most-next h =
-      let next : most_of (drop i cells) ≡ max (get_or cells i 0) (most_of (drop (i + 1) cells)) = rw (add-one, drop-cons cells i 0 h) refl in
-      omega (arith, so_far, next)
-
-  pub most-ends : i ≡ length cells → most ≡ most_of cells
-  unfolding most_of
-  most-ends e =
-      let none : most_of (drop i cells) ≡ 0 = rw (e, drop-length cells) refl in
-      omega (arith, so_far, none)
+-- the greatest count, found cell by cell
+pub most-folded : (most : ℕ) (cells : List ℕ) → fold max most cells ≡ max most (most_of cells)
+unfolding most_of
+most-folded most [] = omega arith
+most-folded most (c ∷ cells) = most-folded (max most c) cells ∙ omega arith
 
 -- at a width the greater count has the greater length
 times_more : (c d width : ℕ) → c ≤ d → c * width ≤ d * width

@@ -9,9 +9,7 @@ ghost use Rattle.geometry.specs.Strip.{lists_of};
 ghost use Rattle.full.specs.Full.{full_lent};
 ghost use Rattle.largest.specs.Largest.{LargestContract, largest_answer};
 
-use full::WORK_NAMED;
-use geometry::entry::check_pass;
-use geometry::limits::MOST_MARKS;
+use full::check;
 use geometry::refusal::Refusal;
 use geometry::strip::Strip;
 
@@ -23,13 +21,6 @@ pub fn largest(strip: Strip, gap: u8, positions: &mut [u8], work: &mut [i16]) ->
         (full_lent positions.old work.old)
         (full_lent positions.new work.new) (largest_answer result) }
 {
-    check_pass(
-        strip,
-        gap,
-        MOST_MARKS,
-        positions.len(),
-        WORK_NAMED,
-        work.len(),
-    )?;
+    check(strip, gap, positions, work)?;
     widths::first_fitting(strip, gap, positions, work)
 }

@@ -8,11 +8,7 @@ use geometry::limits::MOST_LENGTH;
 pub fn most_cells(cells: &[u8]) -> u8
     ensures { result ≡ most_of cells.now }
 {
-    let mut most: u8 = 0;
-    for count in cells {
-        most = most.max(*count);
-    }
-    most
+    cells.iter().copied().fold(0, u8::max)
 }
 
 // Whether the greatest cell count, and so every other, is at most 240 dots at a width.
@@ -22,12 +18,12 @@ pub fn within(most: u8, width: u8) -> bool
     most as u16 * width as u16 <= MOST_LENGTH as u16
 }
 
-// Writes the length of every label.
+// Writes the length of every label. By index: nothing is known of what a `zip` with `iter_mut` has written.
 pub fn scale(cells: &[u8], width: u8, lengths: &mut [u8])
     requires { ScaleReady cells.now width lengths.old }
     ensures { Scaled cells.now width lengths.old lengths.new }
 {
-    for i in 0..cells.len() {
-        lengths[i] = cells[i] * width;
+    for (i, count) in cells.iter().enumerate() {
+        lengths[i] = count * width;
     }
 }

@@ -46,7 +46,8 @@ fn fits_at(
 }
 
 // The first width that fits, from the widest down. Where none does the last one tried is 1 dot, at which no length is over 240: so the
-// full pass has been called in either case, and the work area is cleared.
+// full pass has been called in either case, and the work area is cleared. A `loop` and no `for`: document 01 asks for one that yields its
+// answer by `break`.
 pub fn first_fitting(
     strip: Strip,
     gap: u8,

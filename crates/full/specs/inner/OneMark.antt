@@ -1,17 +1,17 @@
 -- What the functions that work on one mark ask and give, over the signed numbers that they hold. Each says which numbers these are.
-use Rattle.std.specs.Prelude.{ℕ, ◌+◌, ◌-◌, ◌≤◌, ◌≡◌, true, List, [], ◌∷◌, map, ℤ, pos, get_or}
+use Rattle.std.specs.Prelude.{ℕ, ◌+◌, ◌-◌, ◌≤◌, ◌≡◌, List, [], ◌∷◌, map, ℤ, pos, get_or}
 use Rattle.geometry.specs.Dot.{dot}
-use Rattle.geometry.specs.Mark.{place_in_range_lem, length_in_range_lem}
+use Rattle.geometry.specs.Mark.{least_place, most_place, most_length}
 use Rattle.geometry.specs.Position.{Position}
 use Rattle.geometry.specs.inner.Machine.{next_above, next_below}
 use Rattle.geometry.specs.inner.Each.{Each}
-use Rattle.full.specs.inner.Row.{candidates, alike, count_of}
-use Rattle.full.specs.inner.SixteenBits.{LeftEdge, Reach, Stored, Carried, Narrow}
+use Rattle.full.specs.inner.Row.{candidates, alike}
+use Rattle.full.specs.inner.SixteenBits.{Between, Reach, Stored, Carried, Narrow}
 
--- a mark in its ranges and a gap: all that ends and reaches are formed from
+-- a place in its range, and a length and a gap that are not above theirs: all that ends and reaches are formed from
 pub record Formed (place : ℤ) (label_length g : ℕ) : Type 0 where
-  pub place-good : place_in_range_lem place ≡ true
-  pub length-good : length_in_range_lem label_length ≡ true
+  pub place-held : Between least_place most_place (dot place)
+  pub length-short : label_length ≤ most_length
   pub gap-narrow : Narrow g
 
 -- how far a side reaches with the mark's label to the left and with the one to the right
@@ -21,27 +21,16 @@ pub record Reached (place : ℤ) (label_length g : ℕ) (near far : ℤ) : Type 
   pub near-held : Reach (dot near)
   pub far-held : Reach (dot far)
 
--- what the greatest reach beside a reach is found from: the next mark's two left edges and two numbers of its row
-pub record GreatestReady (reach place left kept_left kept_right : ℤ) : Type 0 where
-  pub in_order : dot left ≤ dot place
-  pub reach-held : Reach (dot reach)
-  pub place-held : LeftEdge (dot place)
-  pub left-held : LeftEdge (dot left)
-  pub kept-left-held : Stored (dot kept_left)
-  pub kept-right-held : Stored (dot kept_right)
-
--- and that reach
-pub record GreatestFound (reach place left kept_left kept_right result : ℤ) : Type 0 where
-  pub is : dot result ≡ candidates (dot reach) (dot left) (dot place) (dot kept_left) (dot kept_right)
-  pub held : Stored (dot result)
-
 -- the four elements of an array of four
 abbrev pub four : List ℤ → List ℤ
 four xs = get_or xs 0 (pos 0) ∷ get_or xs 1 (pos 0) ∷ get_or xs 2 (pos 0) ∷ get_or xs 3 (pos 0) ∷ []
 
--- a row of the table, as four signed numbers
+-- a row of the table, from four signed numbers
+abbrev pub row_dots : List ℤ → List ℕ
+row_dots reaches = map dot (four reaches)
+
 abbrev pub RowHeld : List ℤ → Type 0
-RowHeld reaches = Each Stored (map dot (four reaches))
+RowHeld reaches = Each Stored (row_dots reaches)
 
 -- what the next mark, at y with length k and with this row, leaves beside a side that reaches to t
 abbrev pub beside : ℕ → ℕ → ℕ → List ℤ → ℕ
@@ -51,17 +40,10 @@ beside t y k next = candidates t (y - k) y (dot (get_or next 0 (pos 0))) (dot (g
 abbrev pub row_before : ℕ → ℕ → ℕ → ℕ → ℕ → List ℤ → List ℕ
 row_before g x l y k next = alike (beside (x + g) y k next) (beside (x + l + g) y k next)
 
--- kept part layouts with these reaches, as dots
-pub record Counted (row : List ℕ) (reaches : List ℤ) (count : ℕ) : Type 0 where
-  pub reaches-are : map dot (four reaches) ≡ row
-  pub reaches-held : RowHeld reaches
-  pub count-is : count ≡ count_of row
-
--- what a step of the walk asks: the two reaches that it carries, a mark, a gap, and three numbers of the mark's row
-pub record StepReady (above below place : ℤ) (label_length g : ℕ) (first second third : ℤ) : Type 0 where
+-- what a step of the walk asks: the two reaches that it carries, and three numbers of the mark's row
+pub record StepReady (above below first second third : ℤ) : Type 0 where
   pub above-held : Carried (dot above)
   pub below-held : Carried (dot below)
-  pub formed : Formed place label_length g
   pub row-held : Each Stored (dot first ∷ dot second ∷ dot third ∷ [])
 
 -- and what it gives: the position and the two reaches after it

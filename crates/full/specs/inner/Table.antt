@@ -27,16 +27,15 @@ RowsFrom g i work s = (j : ℕ) → i ≤ j → j < length s.places → map dot 
 abbrev pub TableHeld : List ℤ → ℕ → Type 0
 TableHeld work marks = (j q : ℕ) → j < marks → q < 4 → Stored (dot (get_or work (4 * j + q) (pos 0)))
 
--- what filling the table asks
-pub record Ready (places : List ℤ) (lengths : List ℕ) (g : ℕ) (work : List ℤ) : Type 0 where
+-- what the checks on entry leave for the inner functions
+pub record Checked (places : List ℤ) (lengths : List ℕ) (g : ℕ) : Type 0 where
   pub same-lengths : length places ≡ length lengths
   pub few : length places ≤ most_marks
   pub places-good : list_all place_in_range_lem places ≡ true
   pub lengths-good : list_all length_in_range_lem lengths ≡ true
   pub gap-narrow : Narrow g
-  pub roomy : work_named ≤ length work
 
--- and what it gives: the first mark's count, the rows of all marks unless that is 0, and nothing touched beyond the named part
+-- what filling the table gives: the first mark's count, the rows of all marks unless that is 0, and nothing touched beyond the named part
 pub record Filled (places : List ℤ) (lengths : List ℕ) (g : ℕ) (entry exit : List ℤ) (count : ℕ) : Type 0 where
   pub first_count : 0 < length places → AnyWeights places lengths (λ s. count ≡ count_of (row_in g s 0))
   pub empty-count : length places ≡ 0 → count ≡ 4
@@ -44,11 +43,11 @@ pub record Filled (places : List ℤ) (lengths : List ℕ) (g : ℕ) (entry exit
   pub held : (count ≡ 0 → ⊥) → TableHeld exit (length places)
   pub rest-kept : drop work_named exit ≡ drop work_named entry
 
--- what the walk asks besides
+-- what the walk asks
 pub record WalkReady (places : List ℤ) (lengths : List ℕ) (g : ℕ) (work : List ℤ) (positions : List ℕ) : Type 0 where
-  pub ready : Ready places lengths g work
   pub rows : AnyWeights places lengths (RowsFrom g 0 work)
   pub held : TableHeld work (length places)
+  pub roomy : work_named ≤ length work
   pub places-for-all : length places ≤ length positions
 
 -- and what it leaves: the numbers of the walk's positions

@@ -5,9 +5,9 @@ use Rattle.geometry.proofs.Dots.{back}
 use Rattle.full.specs.inner.Row.{count_of}
 use Rattle.full.proofs.kept.both_sides.Goals as goal
 
-pub returns : goal.returns
+pub invariant_of-result : goal.invariant_of-result
 unfolding count_of
-returns c =
+invariant_of-result c =
     let left = back c.ranges.left in
     let right = back c.ranges.right in
     let left-counted = rw left at c.one_if_kept.ensures.0 in
@@ -15,7 +15,9 @@ returns c =
     let left-held = c.requires.0 in
     let right-held = c.requires.1 in
     record {
-      reaches-are = rw (left, right) refl;
-      reaches-held = rw (left, right) (left-held, (left-held, (right-held, (right-held, tt))));
-      count-is = rw (left-counted, right-counted) (omega arith);
+      held = rw (left, right) (∣ (left-held, (left-held, (right-held, (right-held, tt)))) ∣₁);
+      counted = rw (left, right, left-counted, right-counted) (omega arith);
     }
+
+pub returns : goal.returns
+returns c = rw (back c.ranges.left, back c.ranges.right) refl

@@ -8,5 +8,6 @@ use Rattle.full.proofs.table.fill.Given as goal
 
 abbrev pub invariant-loop-i : goal.invariant-loop-i
 invariant-loop-i l =
-    Filling l.strip.places.now l.strip.lengths.now l.gap l.initial.work l.work l.kept.reaches l.kept.count l.i
-    × (l.next.place ≡ get_or l.strip.places.now l.i (pos 0)) × (l.next.length ≡ get_or l.strip.lengths.now l.i 0)
+    let m = l.marks in
+    Filling m.places.now m.lengths.now m.gap l.fn.work l.work l.kept.reaches l.i
+    × (l.next.place ≡ get_or m.places.now l.i (pos 0)) × (l.next.length ≡ get_or m.lengths.now l.i 0)

@@ -7,11 +7,11 @@ use lib.IntN.{ℤ, pos}
 use lib.ListN.{get_or}
 use Rattle.geometry.specs.Dot.{dot}
 use Rattle.geometry.specs.Mark.{Mark}
-use Rattle.geometry.specs.Position.{Position, leftward}
+use Rattle.geometry.specs.Position.{Position}
 use Rattle.geometry.specs.inner.Machine.{next_above, next_below}
 use Rattle.geometry.proofs.Dots.{fetched}
 use Rattle.full.specs.inner.Rest.{first_passed_lem}
-use Rattle.full.specs.inner.OneMark.{Reached, StepReady, Stepped}
+use Rattle.full.specs.inner.OneMark.{Formed, Reached, StepReady, Stepped}
 use Rattle.full.proofs.EndsHeld.{formed-ends, edge-back, reach-back}
 use Rattle.full.proofs.SixteenBits.{next-carried}
 use Rattle.full.proofs.walk.step.Goals as goal
@@ -37,12 +37,13 @@ module _ (g : ℕ) (a b place : ℤ) (length : ℕ) (near far : ℤ) (own : Reac
   by_tests false false false weight = (refl, own.far-is)
 
   -- and reaches of the walk
-  stepped : (first second third : ℤ) (two three one : Bool) (position : Position) (a' b' : ℤ) → StepReady a b place length g first second third
-      → position ≡ first_passed_lem two three one → dot a' ≡ above_by two three one → dot b' ≡ below_by two three one
+  stepped : (first second third : ℤ) (two three one : Bool) (position : Position) (a' b' : ℤ)
+      → Formed place length g → StepReady a b first second third → position ≡ first_passed_lem two three one
+      → dot a' ≡ above_by two three one → dot b' ≡ below_by two three one
       → Stepped g a b place length (first_passed_lem two three one) position a' b'
-  stepped first second third two three one position a' b' ready number up down =
+  stepped first second third two three one position a' b' formed ready number up down =
       let next = by_tests two three one in
-      let ends = formed-ends place length g 0 ready.formed in
+      let ends = formed-ends place length g 0 formed in
       let held = next-carried g (dot a) (dot b) (marked 0) (first_passed_lem two three one) ends ready.above-held ready.below-held in
       record {
         position-is = number;
@@ -51,9 +52,6 @@ module _ (g : ℕ) (a b place : ℤ) (length : ℕ) (near far : ℤ) (own : Reac
         above-held = rw (up ∙ (next 0).0) held.0;
         below-held = rw (down ∙ (next 0).1) held.1;
       }
-
-pub left_edge-left-requires : goal.left_edge-left-requires
-left_edge-left-requires c = (formed-ends c.args.mark.place c.args.mark.length c.args.gap 0 c.requires.formed).left-edge leftward
 
 pub returns : goal.returns
 returns c =
@@ -98,4 +96,4 @@ returns c =
       fetched c.if_passed.result c.if_passed.type_inv,
       fetched c.if_passed-2.result c.if_passed-2.type_inv,
     )
-    (stepped _ _ _ _ _ _ _ own _ _ _ _ _ _ _ _ _ c.requires c.first_passed.ensures up down)
+    (stepped _ _ _ _ _ _ _ own _ _ _ _ _ _ _ _ _ c.args.mark.formed c.requires c.first_passed.ensures up down)

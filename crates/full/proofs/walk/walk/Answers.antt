@@ -9,34 +9,33 @@ use Rattle.full.proofs.Walking.{walking_start, step-ready, walking-more, walking
 use Rattle.full.proofs.walk.walk.Goals as goal
 
 pub loop-i-init : goal.loop-i-init
-loop-i-init c = walking_start _ _ _ _ _ _ _ refl refl c.requires
+loop-i-init c = walking_start _ _ _ c.args.marks.checked _ _ c.requires _ _ refl refl
 
-pub step-at-requires : goal.step-at-requires
-step-at-requires c =
+pub step-taken-requires : goal.step-taken-requires
+step-taken-requires c =
     let cell : ℕ → ℤ = λ n. get_or c.args.work.now n (pos 0) in
     rw (
-      c.at.ensures.0,
-      c.at.ensures.1,
       fetched (cell (4 * c.loop-i.i)) (omega arith),
       fetched (cell (4 * c.loop-i.i + 1)) (omega arith),
       fetched (cell (4 * c.loop-i.i + 2)) (omega arith),
     )
-    (step-ready _ _ _ _ _ _ _ _ _ c.loop-i.invariant c.loop-i-test.true)
+    (step-ready _ _ _ c.args.marks.checked _ _ c.requires _ _ _ _ c.loop-i.invariant c.loop-i-test.true)
 
 pub loop-i-preserved : goal.loop-i-preserved
 loop-i-preserved c =
     let cell : ℕ → ℤ = λ n. get_or c.args.work.now n (pos 0) in
-    let taken = c.step-at.result in
+    let after = c.step-taken.result.after in
     let stepped = rw (
-      c.at.ensures.0,
-      c.at.ensures.1,
+      c.at.ensures.place,
+      c.at.ensures.label,
+      c.at.ensures.gap,
       fetched (cell (4 * c.loop-i.i)) (omega arith),
       fetched (cell (4 * c.loop-i.i + 1)) (omega arith),
       fetched (cell (4 * c.loop-i.i + 2)) (omega arith),
     )
-    at c.step-at.ensures in
+    at c.step-taken.ensures in
     rw c.from.ensures
-    (walking-more _ _ _ _ _ _ _ _ _ c.loop-i.invariant c.loop-i-test.true _ taken.above taken.below stepped)
+    (walking-more _ _ _ c.args.marks.checked _ _ c.requires _ _ _ _ c.loop-i.invariant c.loop-i-test.true _ after.above after.below stepped)
 
 pub returns : goal.returns
-returns c = walking-done _ _ _ _ _ _ _ _ _ c.loop-i.invariant (omega arith)
+returns c = walking-done _ _ _ c.args.marks.checked _ _ c.requires _ _ _ _ c.loop-i.invariant (omega arith)

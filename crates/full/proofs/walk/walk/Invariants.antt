@@ -4,4 +4,5 @@ use Rattle.full.proofs.walk.walk.Given as goal
 
 abbrev pub invariant-loop-i : goal.invariant-loop-i
 invariant-loop-i l =
-    Walking l.strip.places.now l.strip.lengths.now l.gap l.work l.initial.positions l.positions l.at.above l.at.below l.i
+    let m = l.marks in
+    Walking m.places.now m.lengths.now m.gap l.initial.positions l.positions l.reaches.above l.reaches.below l.i

@@ -1,10 +1,13 @@
--- `largest::scaled::most_cells` meets its contract: the greatest so far and the greatest of what is left make the greatest of all.
+-- `largest::scaled::most_cells` meets its contract: from 0 on the greater of two, cell count by cell count.
+use mathlib.Core.Path.{◌≡◌}
+use Prim.Native.Nat.{max}
 use native.Mathlib.Omega.{arith}
-use Rattle.largest.proofs.MostCells.{most-next, most-ends}
+use Rattle.std.proofs.Common.{rules}
+use Rattle.std.specs.List.{fold}
+use Rattle.largest.proofs.MostCells.{most-folded}
 use Rattle.largest.proofs.scaled.most_cells.Goals as goal
 
-pub loop-count-preserved : goal.loop-count-preserved
-loop-count-preserved c = rw c.max-most.ensures (most-next _ _ _ c.loop-count.invariant c.loop-count-test.true)
-
 pub returns : goal.returns
-returns c = most-ends c.args.cells.now c.loop-count.count-index _ c.loop-count.invariant (omega arith)
+returns c =
+    let all : c.fold.result ≡ fold max 0 c.args.cells.now = search rules in
+    omega (arith, all, most-folded 0 c.args.cells.now)
