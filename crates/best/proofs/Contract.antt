@@ -7,18 +7,24 @@ use Prim.Native.Nat.{ℕ, ◌≤◌, min}
 use native.Mathlib.Omega.{arith}
 use lib.ListN.{length, take, length-map}
 use Rattle.geometry.specs.Strip.{Strip, marks_of, most_short}
-use Rattle.geometry.specs.Pass.{written}
+use Rattle.geometry.specs.Pass.{pass_verdict, written}
 use Rattle.geometry.specs.Position.{code}
-use Rattle.geometry.specs.Refusal.{accepted, number_of}
+use Rattle.geometry.specs.Refusal.{Verdict, accepted, number_of}
 use Rattle.geometry.proofs.Accepted.{PassAccepted, pass-accepted, accepted-rising, length-marks}
 use Rattle.geometry.proofs.Lent.{used-is}
 use Rattle.best.specs.Best.{work_named, BestLent, best_checks, BestContract}
 use Rattle.best.specs.LeftOut.{by_falling_weight, left_out_lem}
 use Rattle.best.specs.inner.Worth.{whole_choice}
-use Rattle.best.specs.inner.Checked.{CheckedAt, Labelled}
+use Rattle.best.specs.inner.Checked.{Checked, Labelled}
 use Rattle.best.specs.inner.Insertion.{zeros_by_weight}
 use Rattle.best.proofs.WorthIsBest.{best-free, best-earns, best-length, worth-best}
 use Rattle.best.proofs.Zeros.{zeros-are-left-out}
+
+-- what the checks gave, from the shorter answer list as the code finds it
+pub checks-made : (s : Strip) (g : ℕ) (entry : BestLent) (shortest : ℕ) {v : Verdict}
+    → v ≡ pass_verdict most_short s g shortest work_named (length entry.work)
+    → shortest ≡ min (length entry.positions) (length entry.left_out) → v ≡ best_checks s g entry
+checks-made s g entry shortest is short = is ∙ ap (λ (k : ℕ). pass_verdict most_short s g k work_named (length entry.work)) short
 
 module _ (s : Strip) (g : ℕ) (entry : BestLent) (passes : accepted ≡ best_checks s g entry) where
   -- the shorter answer list
@@ -30,23 +36,23 @@ module _ (s : Strip) (g : ℕ) (entry : BestLent) (passes : accepted ≡ best_ch
   passed = pass-accepted most_short s g shorter work_named (length entry.work) (sym passes)
 
   -- in the form in which the pass asks for it
-  pub accepted-checked : CheckedAt g s entry.work
+  pub accepted-checked : Checked g s
   accepted-checked =
       let a = passed.entered in
       record {
-        checked = record {
-          same-lengths = a.same-lengths;
-          same-weights = a.same-weights;
-          few = a.few;
-          places-good = a.places-good;
-          weights-good = a.weights-good;
-          roomy = passed.work-long;
-        };
+        same-lengths = a.same-lengths;
+        same-weights = a.same-weights;
+        few = a.few;
+        places-good = a.places-good;
+        weights-good = a.weights-good;
         gap-narrow = passed.gap-narrow;
       }
 
   pub lists-enough : (length s.places ≤ length entry.positions) × (length s.places ≤ length entry.left_out)
   lists-enough = omega (arith, passed.list-long)
+
+  pub work-enough : work_named ≤ length entry.work
+  work-enough = passed.work-long
 
   -- the choice of the walk as position numbers, one for each mark
   abbrev codes : List ℕ

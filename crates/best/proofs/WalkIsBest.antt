@@ -18,10 +18,10 @@ use Rattle.geometry.specs.inner.Machine.{next_above, next_below}
 use Rattle.geometry.proofs.Accepted.{marks-from, length-marks}
 use Rattle.geometry.proofs.Lent.{written-whole, take_more, drop_more}
 use Rattle.best.specs.inner.Worth.{earned_by, worth, picked, picked_from, best_from, whole_worth, whole_choice}
-use Rattle.best.specs.inner.Names.{last_after, reach_named, reach_at}
+use Rattle.best.specs.inner.Names.{last_after, reach_at}
 use Rattle.best.specs.inner.Checked.{Checked}
 use Rattle.best.specs.inner.Table.{cell_after, cell_worth, Filled}
-use Rattle.best.specs.inner.Trial.{picked_at}
+use Rattle.best.specs.inner.Trial.{BeforeMark, picked_at}
 use Rattle.best.proofs.WorthIsBest.{picked-attains, best-length}
 use Rattle.best.proofs.NamedReaches.{above-named, below-named}
 use Rattle.best.proofs.CellsHoldWorth.{last-up-to, label-last, after-worth, above-after, below-after}
@@ -53,12 +53,12 @@ pub record Walked (g : ℕ) (s : Strip) (old positions : List ℕ) (x y target k
 module _ (g : ℕ) (s : Strip) (work : List ℕ) (filled : Filled g s 0 work) where
   -- the first cell holds what all marks earn
   pub first_cell : get_or work 0 0 ≡ whole_worth g s
-  unfolding cell_worth reach_named
+  unfolding cell_worth reach_at
   first_cell = filled.cell 0 0 (omega arith) (omega arith)
 
   -- nothing is written and all is left to earn
   pub walk-starts : (old : List ℕ) → Walked g s old old 0 0 (get_or work 0 0) 0
-  unfolding reach_named
+  unfolding reach_at
   walk-starts old =
       record {
         within = omega arith;
@@ -71,7 +71,7 @@ module _ (g : ℕ) (s : Strip) (work : List ℕ) (filled : Filled g s 0 work) wh
       }
 
   -- at the mark with index k
-  module _ (checked : Checked s work) (old positions : List ℕ) (x y target k : ℕ) (walked : Walked g s old positions x y target k)
+  module _ (checked : Checked g s) (old positions : List ℕ) (x y target k : ℕ) (walked : Walked g s old positions x y target k)
       (in-strip : k < length s.places) where
     -- the mark, the marks after it, and the two reaches beside it
     abbrev m : Mark
@@ -86,6 +86,10 @@ module _ (g : ℕ) (s : Strip) (work : List ℕ) (filled : Filled g s 0 work) wh
     abbrev b : ℕ
     b = reach_at g s y
 
+    -- the last labels are of marks before it
+    pub before-mark : BeforeMark s k x y
+    before-mark = record { in-strip = in-strip; above_before = walked.above_before; below-before = walked.below-before }
+
     -- what is left is the mark and the marks after it
     left_is : drop k (marks_of s) ≡ m ∷ rest
     left_is = marks-from s k checked.same-lengths checked.same-weights in-strip
@@ -97,8 +101,8 @@ module _ (g : ℕ) (s : Strip) (work : List ℕ) (filled : Filled g s 0 work) wh
         let p = at t d in
         let last = label-last k x y t d walked.above_before walked.below-before in
         filled.cell (last_after above k p x) (last_after below k p y)
-        (above-after g s work k x y checked in-strip walked.above_before walked.below-before p)
-        (below-after g s work k x y checked in-strip walked.above_before walked.below-before p)
+        (above-after g s k x y checked before-mark p)
+        (below-after g s k x y checked before-mark p)
         ∙ after-worth g s 0 k x y p (omega arith)
 
     -- the program's choice is the choice of the definition
@@ -142,7 +146,7 @@ module _ (g : ℕ) (s : Strip) (work : List ℕ) (filled : Filled g s 0 work) wh
           }
 
 -- at the end the used part holds the best choice
-module _ (g : ℕ) (s : Strip) (work old positions : List ℕ) (x y target k : ℕ) (checked : Checked s work) (walked : Walked g s old positions x y target k)
+module _ (g : ℕ) (s : Strip) (old positions : List ℕ) (x y target k : ℕ) (checked : Checked g s) (walked : Walked g s old positions x y target k)
     (at-end : length s.places ≤ k) where
   -- no mark is left, so what is written is the whole choice
   one-for-each : length (marks_of s) ≡ length s.places
