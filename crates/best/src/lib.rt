@@ -9,7 +9,7 @@ mod row;
 mod table;
 mod walk;
 
-ghost use Rattle.std.specs.Prelude.{◌≤◌, length};
+ghost use Rattle.std.specs.Prelude.{◌≡◌, ◌≤◌, length};
 ghost use Rattle.geometry.specs.Strip.{lists_of};
 ghost use Rattle.best.specs.Best.{BestContract, best_lent, best_answer, work_named};
 ghost use Rattle.best.specs.inner.Checked.{Labelled};
@@ -26,17 +26,13 @@ use geometry::work::clear;
 // How many numbers of the work area document 01 names.
 pub const WORK_NAMED: usize = 15000;
 
-// The positions and their sum, by the table and the walk; leaves zeros in the work area. The table looks reaches up in the list; the walk,
-// which needs few, finds them by the gap.
+// The positions and their sum, by the table and the walk; leaves zeros in the work area.
 fn label_marks(marks: Marks, positions: &mut [u8], work: &mut [u32]) -> u32
-    requires positions_long { length marks.places.now ≤ length positions.old }
+    requires one_each { length positions.old ≡ length marks.places.now }
     requires roomy { work_named ≤ length work.old }
-    ensures { Labelled marks.entry.gap
-        (strip_of marks.entry) positions.old
-        positions.new work.old work.new result }
+    ensures { Labelled marks.entry.gap (strip_of marks.entry) positions.new work.old work.new result }
 {
-    let reaches = marks.reaches();
-    table::fill(marks, &reaches, work);
+    table::fill(marks, work);
     walk::place_labels(marks, positions, work);
     let sum = work[0];
     clear(work, WORK_NAMED, 0);
@@ -71,7 +67,8 @@ pub fn best(
         weights: strip.weights,
         gap,
     };
-    let sum = label_marks(marks, positions, work);
-    let count = left_out::list(marks, positions, left_out);
+    let used = &mut positions[..strip.places.len()];
+    let sum = label_marks(marks, used, work);
+    let count = left_out::list(marks, used, left_out);
     Ok(Choice { sum, count })
 }

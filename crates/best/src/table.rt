@@ -3,7 +3,7 @@ ghost use Rattle.std.specs.Prelude.{◌≡◌, suc, ◌*◌, ◌<◌, ◌≤◌,
 ghost use Rattle.geometry.specs.inner.Positions.{position_of};
 ghost use Rattle.best.specs.Best.{work_named};
 ghost use Rattle.best.specs.inner.Handed.{strip_of};
-ghost use Rattle.best.specs.inner.Names.{names, names_before, Reaches};
+ghost use Rattle.best.specs.inner.Names.{names, names_before};
 ghost use Rattle.best.specs.inner.Table.{cell_of, Filled, Renewing, Renewed};
 ghost use Rattle.best.specs.inner.Trial.{TrialAsked, gain_at};
 ghost use Rattle.best.specs.inner.Row.{RowOf, CellAsked, cell_by};
@@ -83,14 +83,14 @@ fn renew(marks: Marks, reaches: &[u16; NAMES], work: &mut [u32], k: usize)
 }
 
 // The table, from the last mark to the first.
-pub fn fill(marks: Marks, reaches: &[u16; NAMES], work: &mut [u32])
-    requires reaches_known { Reaches marks.gap (strip_of marks) reaches.now }
-    requires roomy { work_named ≤ length work.old }
+pub fn fill(marks: Marks, work: &mut [u32])
+    requires { work_named ≤ length work.old }
     ensures filled { Filled marks.entry.gap (strip_of marks.entry) 0 work.new }
     ensures rest_kept { drop work_named work.new ≡ drop work_named work.old }
 {
+    let reaches = marks.reaches();
     clear(work, WORK_NAMED, 0);
     for k in (0..marks.places.len()).rev() {
-        renew(marks, reaches, work, k);
+        renew(marks, &reaches, work, k);
     }
 }

@@ -9,7 +9,7 @@ pub returns : goal.returns
 returns c =
     let again = cleared-again work_named 0 c.clear.new.work c.fill.new.work c.args.work.now in
     record {
-      positions-written = c.place_labels.ensures;
+      positions-are = c.place_labels.ensures;
       sum_is = first_cell _ (strip_of c.args.marks) _ c.fill.ensures.filled;
       work-cleared = again c.clear.ensures c.fill.ensures.rest_kept;
     }

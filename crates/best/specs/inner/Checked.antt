@@ -4,7 +4,7 @@ use Rattle.std.specs.List.{list_all}
 use Rattle.geometry.specs.Mark.{place_in_range_lem, weight_in_range_lem}
 use Rattle.geometry.specs.Strip.{Strip, most_short}
 use Rattle.geometry.specs.Position.{code}
-use Rattle.geometry.specs.Pass.{most_gap, written, cleared}
+use Rattle.geometry.specs.Pass.{most_gap, cleared}
 use Rattle.best.specs.Best.{work_named}
 use Rattle.best.specs.inner.Worth.{whole_worth, whole_choice}
 
@@ -17,8 +17,8 @@ pub record Checked (g : ℕ) (s : Strip) : Type 0 where
   pub weights-good : list_all weight_in_range_lem s.weights ≡ true
   pub gap-narrow : g ≤ most_gap
 
--- the strip's choice at a gap of g dots is written, its sum given, and the work area cleared
-pub record Labelled (g : ℕ) (s : Strip) (old_positions positions old_work work : List ℕ) (sum : ℕ) : Type 0 where
-  pub positions-written : positions ≡ written (map code (whole_choice g s)) old_positions
+-- the positions are those of the strip's choice at a gap of g dots, its sum is given, and the work area cleared
+pub record Labelled (g : ℕ) (s : Strip) (positions old_work work : List ℕ) (sum : ℕ) : Type 0 where
+  pub positions-are : positions ≡ map code (whole_choice g s)
   pub sum_is : sum ≡ whole_worth g s
   pub work-cleared : work ≡ cleared work_named 0 old_work

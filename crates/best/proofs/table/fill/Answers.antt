@@ -17,7 +17,7 @@ renew-requires c =
     let loop = c.loop-k in
     let one_more : loop.k ≡ suc (loop.k - 1) = omega arith in
     record {
-      reaches_known = c.requires.reaches_known;
+      reaches_known = c.reaches-reaches.ensures;
       roomy = omega (arith, loop.invariant.1, c.clear.auto.work);
       in-strip = omega arith;
       partly = none-renewed _ s (loop.k - 1) loop.work (rw one_more at loop.invariant.2);
