@@ -6,7 +6,7 @@ use mathlib.Core.List.{List, ◌++◌, map}
 use Prim.Native.Nat.{ℕ, min}
 use lib.ListN.{length, drop, length-map}
 use Rattle.geometry.specs.Strip.{Strip, marks_of, most_short}
-use Rattle.geometry.specs.Pass.{pass_verdict, written}
+use Rattle.geometry.specs.Pass.{written}
 use Rattle.geometry.specs.Position.{code}
 use Rattle.geometry.specs.Refusal.{accepted, number_of}
 use Rattle.geometry.proofs.Accepted.{PassAccepted, pass-accepted, accepted-rising, length-marks}
@@ -18,12 +18,14 @@ use Rattle.best.specs.inner.Insertion.{zeros_by_weight}
 use Rattle.best.proofs.WorthIsBest.{best-free, best-earns, best-length, worth-best}
 use Rattle.best.proofs.Zeros.{zeros-are-left-out}
 
--- the checks are passed, with the length of the shorter answer list as the code finds it
-module _ (s : Strip) (g : ℕ) (entry : BestLent) (shortest : ℕ) (passes : accepted ≡ pass_verdict most_short s g shortest work_named (length entry.work))
-    (short : shortest ≡ min (length entry.positions) (length entry.left_out)) where
-  -- what they bring: a strip that is accepted, a narrow gap, answer lists and a work area that are long enough
-  pub passed : PassAccepted most_short s g shortest work_named (length entry.work)
-  passed = pass-accepted most_short s g shortest work_named (length entry.work) (sym passes)
+module _ (s : Strip) (g : ℕ) (entry : BestLent) (passes : accepted ≡ best_checks s g entry) where
+  -- the shorter answer list
+  abbrev shorter : ℕ
+  shorter = min (length entry.positions) (length entry.left_out)
+
+  -- what the checks bring: a strip that is accepted, a narrow gap, answer lists and a work area that are long enough
+  pub passed : PassAccepted most_short s g shorter work_named (length entry.work)
+  passed = pass-accepted most_short s g shorter work_named (length entry.work) (sym passes)
 
   -- of it what the marks keep
   pub accepted-checked : Checked g s
@@ -55,13 +57,11 @@ module _ (s : Strip) (g : ℕ) (entry : BestLent) (shortest : ℕ) (passes : acc
       → BestContract s g entry exit (record { number = 0; sum = sum; count = count })
   answer-accepted exit used sum count labelled placed listed counted =
       let rising = accepted-rising most_short s passed.entered in
-      let checks : accepted ≡ best_checks s g entry =
-      passes ∙ ap (λ (k : ℕ). pass_verdict most_short s g k work_named (length entry.work)) short in
       let out : zeros_by_weight s.weights used ≡ left_out_lem s.weights (whole_choice g s) =
       ap (zeros_by_weight s.weights) labelled.positions-are ∙ ap (by_falling_weight s.weights) (zeros-are-left-out 1 (whole_choice g s)) in
       record {
-        number_is = ap number_of checks;
-        where-refused = λ no. absurd (no (sym checks));
+        number_is = ap number_of passes;
+        where-refused = λ no. absurd (no (sym passes));
         where-accepted = λ _.
             record {
               choice = whole_choice g s;

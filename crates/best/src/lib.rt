@@ -10,8 +10,9 @@ mod table;
 mod walk;
 
 ghost use Rattle.std.specs.Prelude.{◌≡◌, ◌≤◌, length};
+ghost use Rattle.geometry.specs.Refusal.{verdict_of};
 ghost use Rattle.geometry.specs.Strip.{lists_of};
-ghost use Rattle.best.specs.Best.{BestContract, best_lent, best_answer, work_named};
+ghost use Rattle.best.specs.Best.{BestContract, best_lent, best_checks, best_answer, work_named};
 ghost use Rattle.best.specs.inner.Checked.{Labelled};
 ghost use Rattle.best.specs.inner.Handed.{strip_of};
 
@@ -25,6 +26,22 @@ use geometry::work::clear;
 
 // How many numbers of the work area document 01 names.
 pub const WORK_NAMED: usize = 15000;
+
+// The checks on entry. The shorter of the two answer lists is the one that 9 is about.
+fn check_entry(
+    strip: Strip,
+    gap: u8,
+    positions: &[u8],
+    left_out: &[u16],
+    work: &[u32],
+) -> Result<(), Refusal>
+    ensures { verdict_of result ≡ best_checks
+        (lists_of strip.entry) gap
+        (best_lent positions.now left_out.now work.now) }
+{
+    let shortest = positions.len().min(left_out.len());
+    check_pass(strip, gap, MOST_SHORT, shortest, WORK_NAMED, work.len())
+}
 
 // The positions and their sum, by the table and the walk; leaves zeros in the work area.
 fn label_marks(marks: Marks, positions: &mut [u8], work: &mut [u32]) -> u32
@@ -59,8 +76,7 @@ pub fn best(
         (best_lent positions.old left_out.old work.old)
         (best_lent positions.new left_out.new work.new) (best_answer result) }
 {
-    let shortest = positions.len().min(left_out.len());
-    check_pass(strip, gap, MOST_SHORT, shortest, WORK_NAMED, work.len())?;
+    check_entry(strip, gap, positions, left_out, work)?;
     let marks = Marks {
         places: strip.places,
         lengths: strip.lengths,

@@ -1,4 +1,5 @@
 // The marks of a strip that passed the checks on entry.
+ghost use Rattle.std.specs.Prelude.{◌≡◌, leb};
 ghost use Rattle.geometry.specs.Strip.{strip};
 ghost use Rattle.best.specs.inner.Checked.{Checked};
 
@@ -16,8 +17,15 @@ pub struct Marks<'a> {
     ghost checked: { Checked gap (strip places.now lengths.now weights.now) },
 }
 
+// Whether a label that begins at `begin` overlaps nothing on a side that reaches to `reach`: it may begin right there.
+fn is_clear(reach: u16, begin: u16) -> bool
+    ensures { result ≡ leb reach begin }
+{
+    reach <= begin
+}
+
 impl<'a> Marks<'a> {
-    ghost use Rattle.std.specs.Prelude.{◌≡◌, ◌≤◌, ◌<◌, ◌/◌, length, get_or};
+    ghost use Rattle.std.specs.Prelude.{◌≤◌, ◌<◌, ◌/◌, length, get_or};
     ghost use Rattle.geometry.specs.Overlap.{left_end};
     ghost use Rattle.geometry.specs.inner.At.{mark_at};
     ghost use Rattle.geometry.specs.inner.Positions.{position_of, direction_at};
@@ -68,16 +76,16 @@ impl<'a> Marks<'a> {
         reaches
     }
 
-    // Whether mark k at p has room beside the last labels: its label may begin right where its side reaches to.
+    // Whether mark k at p has room beside the last labels.
     pub fn has_room(self, k: usize, p: Position, last: LastLabels) -> bool
         requires { BeforeMark (strip_of self) k last.above last.below }
         ensures { result ≡ room_at self.entry.gap (strip_of self.entry) k last.above last.below (position_of p) }
     {
         let begin = self.begin_of(k, p);
         if p.lies_on(Side::Above) {
-            self.reach_of(last.above) <= begin
+            is_clear(self.reach_of(last.above), begin)
         } else if p.lies_on(Side::Below) {
-            self.reach_of(last.below) <= begin
+            is_clear(self.reach_of(last.below), begin)
         } else {
             true
         }
