@@ -1,6 +1,6 @@
 -- The table is renewed part by part: a row by its cells, the whole by its rows. Each part begins where the last one ended, and the work
 -- area beyond its named part is all the while as it was.
-use mathlib.Core.Path.{◌≡◌, refl, ◌∙◌}
+use mathlib.Core.Path.{◌≡◌, ◌∙◌}
 use mathlib.Core.List.{List}
 use Prim.Native.Nat.{ℕ}
 use native.Mathlib.Omega.{arith}
@@ -10,10 +10,6 @@ use Rattle.best.specs.inner.Table.{Renewing, Renewed}
 use Rattle.best.proofs.TableRenewed.{at_bound}
 
 module _ (g : ℕ) (s : Strip) (k : ℕ) where
-  -- nothing is done yet
-  pub renewed-none : (reaches work : List ℕ) (b d : ℕ) → b ≡ d → Renewing g s reaches work k b → Renewed g s k d work work
-  renewed-none reaches work b d e r = record { partly = at_bound g s k work b d e r.partly; rest-kept = refl }
-
   -- what the next part asks
   pub renewed-so-far : (reaches old work : List ℕ) (b d : ℕ) → Renewing g s reaches old k b → length work ≡ length old → Renewed g s k d old work
       → Renewing g s reaches work k d

@@ -4,17 +4,12 @@ use native.Mathlib.Omega.{arith}
 use Rattle.best.specs.inner.Handed.{strip_of}
 use Rattle.best.proofs.TableRenewed.{skip-rest}
 use Rattle.best.proofs.RowGivesCells.{may-try, cell-asked, one-cell-more}
-use Rattle.best.proofs.RenewedInParts.{renewed-none, renewed-so-far, renewed-more}
+use Rattle.best.proofs.RenewedInParts.{renewed-so-far, renewed-more}
 use Rattle.best.proofs.table.renew_row.Goals as goal
 
 pub row_of-row-requires : goal.row_of-row-requires
 row_of-row-requires c =
     may-try _ (strip_of c.args.marks) c.args.marks.checked _ _ c.args.k _ c.args.above 0 c.requires.renewing (omega arith) (omega arith)
-
-pub loop-below-init : goal.loop-below-init
-loop-below-init c =
-    let s = strip_of c.args.marks in
-    record { renewed = renewed-none _ s c.args.k _ _ _ _ (omega arith) c.requires.renewing; shared = c.row_of-row.ensures }
 
 pub renew_cell-requires : goal.renew_cell-requires
 renew_cell-requires c =
