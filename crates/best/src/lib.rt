@@ -27,7 +27,8 @@ use geometry::work::clear;
 // How many numbers of the work area document 01 names.
 pub const WORK_NAMED: usize = 15000;
 
-// The checks on entry. The shorter of the two answer lists is the one that 9 is about.
+// The checks on entry. The shorter of the two answer lists is the one that 9 is about. The lists are handed over for their lengths alone,
+// because the contract is about what is lent.
 fn check_entry(
     strip: Strip,
     gap: u8,
