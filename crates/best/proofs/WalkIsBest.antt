@@ -42,7 +42,6 @@ whole_codes g s = map code (whole_choice g s)
 
 -- where the walk stands before the mark with index k
 pub record Walked (g : ℕ) (s : Strip) (positions : List ℕ) (x y target k : ℕ) : Type 0 where
-  pub within : k ≤ length s.places
   pub one_each : length positions ≡ length s.places
   pub above_before : x / 2 ≤ k
   pub below-before : y / 2 ≤ k
@@ -60,7 +59,6 @@ module _ (g : ℕ) (s : Strip) (work : List ℕ) (filled : Filled g s 0 work) wh
   unfolding reach_at
   walk-starts positions one_each =
       record {
-        within = omega arith;
         one_each = one_each;
         above_before = omega arith;
         below-before = omega arith;
@@ -104,17 +102,20 @@ module _ (g : ℕ) (s : Strip) (work : List ℕ) (filled : Filled g s 0 work) wh
         ∙ after-worth g s 0 k x y p (omega arith)
 
     -- the program's choice is the choice of the definition
-    pub chosen_is : picked_at g s work k x y target ≡ picked_from g a b m rest
+    chosen_is : picked_at g s work k x y target ≡ picked_from g a b m rest
     unfolding first_of
     chosen_is =
         rw (walked.target_is, left_is)
         (picked_same a b m (λ p. get_or work (cell_after k x y p) 0) (λ p. worth g (next_above g a m p) (next_below g b m p) rest) (worth g a b (m ∷ rest))
         labelled-cell)
 
-    module _ (p : Position) (e : p ≡ picked_from g a b m rest) where
+    module _ (p : Position) (chosen : p ≡ picked_at g s work k x y target) where
+      as-defined : p ≡ picked_from g a b m rest
+      as-defined = chosen ∙ chosen_is
+
       -- what the mark earns and what the marks after it earn is all that was left to earn
       earned-and-rest : earned_by (get_or s.weights k 0) p + worth g (next_above g a m p) (next_below g b m p) rest ≡ target
-      earned-and-rest = rw e ((picked-attains g a b m rest).1 ∙ ap (worth g a b) (sym left_is) ∙ sym walked.target_is)
+      earned-and-rest = rw as-defined ((picked-attains g a b m rest).1 ∙ ap (worth g a b) (sym left_is) ∙ sym walked.target_is)
 
       -- so the program may take the mark's weight off
       pub earned-within : earned_by (get_or s.weights k 0) p ≤ target
@@ -123,14 +124,13 @@ module _ (g : ℕ) (s : Strip) (work : List ℕ) (filled : Filled g s 0 work) wh
       -- the best choice of what is left begins with the mark's position
       begins-with : rest_codes g s x y k ≡ code p ∷ map code (best_from g (next_above g a m p) (next_below g b m p) rest)
       unfolding best_from
-      begins-with = rw (left_is, e) refl
+      begins-with = rw (left_is, as-defined) refl
 
       -- the mark's position is written, each side has its last label, and the walk stands before the next mark
       pub walk-on : (v x' y' w : ℕ) → v ≡ code p → x' ≡ last_after above k p x → y' ≡ last_after below k p y
           → w ≡ earned_by (get_or s.weights k 0) p → Walked g s (set positions k v) x' y' (target - w) (k + 1)
       walk-on v x' y' w ev ex ey ew =
           record {
-            within = omega arith;
             one_each = length-set positions k v ∙ walked.one_each;
             above_before = rw (ex, add-one k) (last-up-to above k x p walked.above_before);
             below-before = rw (ey, add-one k) (last-up-to below k y p walked.below-before);
