@@ -2,32 +2,19 @@
 -- The name of a label of mark k is 2k + 2 or 2k + 3: half of it less 1 is k again, and its parity is the direction. So the reaches of the
 -- two names after mark k is placed are the reaches that the walk holds.
 use mathlib.Core.Path.{◌≡◌, refl, sym, ◌∙◌, ap}
-use mathlib.Core.Bool.{true}
 use mathlib.Core.List.{List}
 use Prim.Native.Nat.{ℕ, ◌+◌, ◌-◌, ◌/◌, ◌%◌, ◌≤◌, ◌<◌}
 use native.Mathlib.Omega.{arith}
-use lib.IntN.{ℤ, pos}
-use lib.ListN.{length, get_or}
-use mir.Syntax.{w16}
-use mir.Val.{to_z, of_z}
+use lib.IntN.{pos}
+use lib.ListN.{get_or}
 use borrow.Author.Tests.{lt-ltb, le-ltb, eq-eqb, ne_eqb}
 use Rattle.geometry.specs.Dot.{dot, empty_reach}
-use Rattle.std.specs.List.{list_all}
-use Rattle.geometry.specs.Mark.{place_in_range_lem}
 use Rattle.geometry.specs.Strip.{Strip}
 use Rattle.geometry.specs.Position.{above, below, Direction, leftward, rightward, Position, unlabelled, at}
 use Rattle.geometry.specs.Overlap.{right_end}
 use Rattle.geometry.specs.inner.At.{mark_at}
 use Rattle.geometry.specs.inner.Machine.{next_above, next_below}
-use Rattle.geometry.proofs.Accepted.{every-at}
-use Rattle.geometry.proofs.Dots.{fetched, range-mag}
 use Rattle.best.specs.inner.Names.{name_of, last_after, reach_at}
-
--- of places that are all in their range, the dot that the code finds of the one that it reads
-module _ (zs : List ℤ) (i : ℕ) (good : list_all place_in_range_lem zs ≡ true) (inside : i < length zs) where
-  pub dot-read : (found : ℕ) → found ≡ dot (to_z w16 (of_z w16 (get_or zs i (pos 0)))) → found ≡ dot (get_or zs i (pos 0))
-  dot-read found is =
-      is ∙ ap dot (fetched (get_or zs i (pos 0)) (range-mag (get_or zs i (pos 0)) (every-at place_in_range_lem zs (pos 0) i good inside)))
 
 -- the reach of a name, by the two tests that the program makes
 module _ (g : ℕ) (s : Strip) (name : ℕ) where

@@ -34,12 +34,20 @@ impl<'a> Marks<'a> {
     ghost use Rattle.best.specs.inner.Trial.{BeforeMark, room_at};
     ghost use Rattle.best.specs.inner.Worth.{earned_by};
 
-    // Where the label of mark k, counted from 0, begins at p, as a dot.
+    // The place of mark k, counted from 0, as a dot.
+    fn place_at(self, k: usize) -> u16
+        requires { k < length self.places.now }
+        ensures { result ≡ (mark_at (strip_of self.entry) k).place }
+    {
+        dot_of(self.places[k])
+    }
+
+    // Where the label of mark k begins at p, as a dot.
     pub fn begin_of(self, k: usize, p: Position) -> u16
         requires { k < length self.places.now }
         ensures { result ≡ left_end (mark_at (strip_of self.entry) k) (direction_at (position_of p)) }
     {
-        let place = dot_of(self.places[k]);
+        let place = self.place_at(k);
         if p.is_leftward() {
             place - self.lengths[k] as u16
         } else {
@@ -56,7 +64,7 @@ impl<'a> Marks<'a> {
             return EMPTY_REACH;
         }
         let i = name / 2 - 1;
-        let place = dot_of(self.places[i]);
+        let place = self.place_at(i);
         let end = if name % 2 == 0 {
             place
         } else {

@@ -1,8 +1,7 @@
 -- `Marks::reach_of` meets its contract: the two tests tell no label, a leftward and a rightward one apart.
-use Prim.Native.Nat.{◌-◌, ◌/◌}
 use native.Mathlib.Omega.{arith}
 use Rattle.best.specs.inner.Handed.{strip_of}
-use Rattle.best.proofs.NamedReaches.{dot-read, reach-of-none, reach-of-left, reach-of-right}
+use Rattle.best.proofs.NamedReaches.{reach-of-none, reach-of-left, reach-of-right}
 use Rattle.best.proofs.marks.Marks.reach_of.Goals as goal
 use Rattle.best.proofs.marks.Marks.reach_of.Goals.{then-name-eq0, else-name-eq0}
 
@@ -13,11 +12,9 @@ pub returns : goal.returns
 returns c =
     let marks = c.args.self in
     let s = strip_of marks in
-    let i = c.args.name / 2 - 1 in
-    let read = dot-read s.places i marks.checked.places-good (omega arith) _ c.dot_of-place.ensures in
     let left = reach-of-left marks.gap s c.args.name c.if-name-lt2.false in
     let right = reach-of-right marks.gap s c.args.name c.if-name-lt2.false in
     elim c.if-name-eq0.branch [
-      | then-name-eq0 w ↦ omega (arith, w.end-is, read, left w.if-name-eq0.true)
-      | else-name-eq0 w ↦ omega (arith, w.end-is, read, right w.if-name-eq0.false)
+      | then-name-eq0 w ↦ omega (arith, w.end-is, c.place_at-place.ensures, left w.if-name-eq0.true)
+      | else-name-eq0 w ↦ omega (arith, w.end-is, c.place_at-place.ensures, right w.if-name-eq0.false)
     ]
