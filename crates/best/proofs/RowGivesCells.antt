@@ -23,19 +23,9 @@ use Rattle.best.proofs.CellsHoldWorth.{most_at, renewed-worth}
 use Rattle.best.proofs.TableRenewed.{set-cell}
 use Rattle.best.proofs.CellsAreSmall.{trial-partly}
 
--- the greatest of some numbers does not depend on their order
-swapped : (a b c : ℕ) → max a (max b c) ≡ max b (max a c)
-swapped a b c = omega arith
-
-grouped : (a b c : ℕ) → max (max a b) c ≡ max a (max b c)
-grouped a b c = omega arith
-
 -- two labels above and two below, by sides or in the order in which positions are tried
 by-sides : (stay a b c d : ℕ) → max (max stay (max a c)) (max b d) ≡ max (0 + stay) (max a (max b (max c (max d 0))))
-by-sides stay a b c d =
-    grouped stay (max a c) (max b d)
-    ∙ ap (λ n. max n (max (max a c) (max b d))) (omega arith)
-    ∙ ap (max (0 + stay)) (grouped a c (max b d) ∙ ap (max a) (swapped c b d ∙ ap (λ n. max b (max c n)) (omega arith)))
+by-sides stay a b c d = omega arith
 
 module _ (g : ℕ) (s : Strip) (checked : Checked g s) (reaches work : List ℕ) (k : ℕ) where
   -- while the table is renewed, mark k may be tried beside last labels of marks before it
