@@ -7,7 +7,7 @@ use mathlib.Core.Bool.{Bool, cond}
 use mathlib.Core.List.{List, [], ◌∷◌}
 use Prim.Native.Nat.{ℕ, suc, ◌+◌, ◌/◌, ◌≤◌, ◌<◌, max}
 use native.Mathlib.Omega.{arith}
-use lib.ListN.{length, get_or, drop}
+use lib.ListN.{get_or, drop}
 use borrow.Author.Tests.{le-ltb}
 use Rattle.geometry.specs.Lists.{greatest_of}
 use Rattle.geometry.specs.Strip.{Strip, marks_of, most_short}
@@ -21,12 +21,12 @@ use Rattle.best.specs.inner.Worth.{earned_by, worth}
 use Rattle.best.specs.inner.Names.{names, name_of, last_after, reach_at}
 use Rattle.best.specs.inner.Checked.{Checked}
 use Rattle.best.specs.inner.Table.{cell_of, cell_after, cell_worth, Partly}
-use Rattle.best.specs.inner.Trial.{room_at, gain_at}
+use Rattle.best.specs.inner.Trial.{BeforeMark, room_at, gain_at}
 use Rattle.best.proofs.NamedReaches.{above-named, below-named}
 
 -- the most that mark k and the marks after it earn, by the table, over the positions that have room
 abbrev pub most_at : ℕ → Strip → List ℕ → ℕ → ℕ → ℕ → ℕ
-most_at g s work k x y = greatest_of (room_at g s k x y) (gain_at s.weights work k x y) every_position
+most_at g s work k x y = greatest_of (room_at g s k x y) (gain_at s work k x y) every_position
 
 -- half the name of a label is the number of its mark
 name-number : (k : ℕ) (d : Direction) → name_of k d / 2 ≡ suc k
@@ -89,15 +89,14 @@ unfolding greatest_of
 greatest-same t f h [] e = refl
 greatest-same t f h (p ∷ xs) e = rw (e p, greatest-same t f h xs e) refl
 
-module _ (g : ℕ) (s : Strip) (work : List ℕ) (k x y : ℕ) (checked : Checked s work) (in-strip : k < length s.places)
-    (above_before : x / 2 ≤ k) (below-before : y / 2 ≤ k) where
+module _ (g : ℕ) (s : Strip) (k x y : ℕ) (checked : Checked g s) (before : BeforeMark s k x y) where
   -- what a cell counts from mark k on, by the definition of `worth`
   worth-from : greatest_of (room_at g s k x y) (λ p. earned_by (get_or s.weights k 0) p + worth_after g s k x y p) every_position
       ≡ cell_worth g s k x y
   unfolding cell_worth worth greatest_of
   worth-from =
       let e : max k (max (x / 2) (y / 2)) ≡ k = omega arith in
-      rw (e, marks-from s k checked.same-lengths checked.same-weights in-strip) refl
+      rw (e, marks-from s k checked.same-lengths checked.same-weights before.in-strip) refl
 
   -- the two last labels after mark k are names
   pub above-after : (p : Position) → last_after above k p x < names
@@ -106,18 +105,18 @@ module _ (g : ℕ) (s : Strip) (work : List ℕ) (k x y : ℕ) (checked : Checke
   pub below-after : (p : Position) → last_after below k p y < names
   below-after p = last-named below k y p (omega arith) (omega arith)
 
-  module _ (partly : Partly g s k (cell_of x y) work) where
+  module _ (work : List ℕ) (partly : Partly g s k (cell_of x y) work) where
     -- the cell that a position leads to is not yet renewed
     led-to : (p : Position) → get_or work (cell_after k x y p) 0 ≡ worth_after g s k x y p
     led-to p =
-        let late = cell-later k x y p above_before below-before (omega arith) in
+        let late = cell-later k x y p before.above_before before.below-before (omega arith) in
         partly.cell (last_after above k p x) (last_after below k p y) (above-after p) (below-after p)
         ∙ ap (λ t. cell_worth g s (cond t k (suc k)) (last_after above k p x) (last_after below k p y)) (le-ltb _ (cell_of x y) late)
-        ∙ after-worth g s (suc k) k x y p (later-number k x y p above_before below-before)
+        ∙ after-worth g s (suc k) k x y p (later-number k x y p before.above_before before.below-before)
 
     -- the value that the program puts into the cell
     pub renewed-worth : most_at g s work k x y ≡ cell_worth g s k x y
     renewed-worth =
-        greatest-same (room_at g s k x y) (gain_at s.weights work k x y) _ every_position
+        greatest-same (room_at g s k x y) (gain_at s work k x y) _ every_position
         (λ p. ap (λ n. earned_by (get_or s.weights k 0) p + n) (led-to p))
         ∙ worth-from

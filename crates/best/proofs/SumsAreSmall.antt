@@ -44,8 +44,8 @@ sum-limit (m ∷ ms) (unlabelled ∷ ps) h = let r = sum-limit ms ps h.1 in omeg
 sum-limit (m ∷ ms) (at s d ∷ ps) h = let r = sum-limit ms ps h.1 in omega arith
 
 -- what is left of a short strip earns no more
-pub worth-limit : (g a b k : ℕ) (s : Strip) (work : List ℕ) → Checked s work → worth g a b (drop k (marks_of s)) ≤ most_sum
-worth-limit g a b k s work h =
+pub worth-limit : (g a b k : ℕ) (s : Strip) → Checked g s → worth g a b (drop k (marks_of s)) ≤ most_sum
+worth-limit g a b k s h =
     let rest = drop k (marks_of s) in
     let small = each-drop _ k (marks_of s) (weights-small s.places s.lengths s.weights h.weights-good) in
     omega (

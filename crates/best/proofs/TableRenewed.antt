@@ -106,10 +106,10 @@ module _ (g : ℕ) (s : Strip) (k : ℕ) where
       }
 
 -- a cleared table counts no marks
-pub cleared-table : (g : ℕ) (s : Strip) (work table old : List ℕ) → Checked s work → table ≡ cleared work_named 0 old
+pub cleared-table : (g : ℕ) (s : Strip) (table old : List ℕ) → Checked g s → table ≡ cleared work_named 0 old
     → Filled g s (length s.places) table
 unfolding cell_worth worth
-cleared-table g s work table old h t = record {
+cleared-table g s table old h t = record {
   cell = λ x y hx hy.
       let after = max (length s.places) (max (x / 2) (y / 2)) in
       let inside : cell_of x y < length (replicate {A = ℕ} work_named 0) = rw (length-replicate {A = ℕ} work_named 0) (omega arith) in

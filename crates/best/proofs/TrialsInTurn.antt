@@ -1,47 +1,36 @@
--- The walk tries the labels in turn: 2, 3, 1, 4. As long as none has passed, the first that passes is the first of those left to try;
--- each trial takes the first position from what is left, and at the end nothing is left.
-use mathlib.Core.Path.{◌≡◌, refl, sym, ◌∙◌, ap}
-use mathlib.Core.Bool.{Bool, true, false}
-use mathlib.Core.List.{List, [], ◌∷◌}
-use Prim.Native.Nat.{ℕ, ◌+◌, ◌≤◌, ◌<◌}
-use native.Mathlib.Numerals.{add-one}
-use lib.ListN.{length, get_or, drop, drop_of_length-le}
-use lib.Seq.{drop-cons}
-use Rattle.std.proofs.Math.ListN.{get_or-map}
+-- The walk tries the labels in turn: 2, 3, 1, 4. The first that passes is the same in the program's list as in the definition's.
+use mathlib.Core.Path.{◌≡◌, refl}
+use mathlib.Core.Bool.{Bool, cond}
+use mathlib.Core.List.{List, [], ◌∷◌, map}
+use mathlib.Core.Option.{some}
+use Rattle.std.proofs.Common.{Some}
+use Rattle.std.specs.List.{find}
+use Rattle.std.specs.Option.{unwrap_or}
 use Rattle.geometry.specs.Lists.{first_of}
-use Rattle.geometry.specs.Position.{Position, unlabelled, ranked}
+use Rattle.geometry.specs.Position.{Position, ranked}
 use Rattle.geometry.specs.declared.position.Position as coded
 use Rattle.geometry.specs.declared.position.Position.TheVariants.{Unlabelled, AboveRight, AboveLeft, BelowLeft, BelowRight}
 use Rattle.geometry.specs.inner.Positions.{position_of}
+use Rattle.geometry.proofs.Split.{by_bool}
 use Rattle.best.specs.inner.Worth.{or_unlabelled}
 
 -- the labels as the program lists them
-abbrev listed : List coded.Position
+abbrev pub listed : List coded.Position
 listed = AboveLeft ∷ BelowLeft ∷ AboveRight ∷ BelowRight ∷ []
 
--- the label with index i
-abbrev tried : ℕ → Position
-tried i = position_of (get_or listed i Unlabelled)
+module _ (test : Position → Bool) where
+  -- the program tests a position by what it stands for
+  abbrev pub coded_test : coded.Position → Bool
+  coded_test p = test (position_of p)
 
-tried-ranked : (i : ℕ) → get_or ranked i unlabelled ≡ tried i
-tried-ranked i = get_or-map position_of listed i Unlabelled
-
--- the first label that passes is not among the first i
-abbrev pub PassedOver : (Position → Bool) → ℕ → Type 0
-PassedOver test i = first_of test ranked ≡ first_of test (drop i ranked)
-
-module _ (test : Position → Bool) (i : ℕ) (so_far : PassedOver test i) where
-  module _ (h : i < length ranked) where
-    -- a label that does not pass is passed over; one that does is the first
-    pub pass-over : test (tried i) ≡ false → PassedOver test (i + 1)
-    unfolding first_of
-    pass-over f = so_far ∙ rw (drop-cons ranked i unlabelled h, tried-ranked i, f, add-one i) refl
-
-    pub first_found : test (tried i) ≡ true → tried i ≡ or_unlabelled (first_of test ranked)
-    unfolding first_of
-    first_found t = sym (ap or_unlabelled so_far ∙ rw (drop-cons ranked i unlabelled h, tried-ranked i, t) refl)
-
-  -- no label passes
-  pub none_found : length ranked ≤ i → unlabelled ≡ or_unlabelled (first_of test ranked)
+  first_found : (ps : List coded.Position) → position_of (unwrap_or (find coded_test ps) Unlabelled) ≡ or_unlabelled (first_of test (map position_of ps))
   unfolding first_of
-  none_found h = sym (ap or_unlabelled so_far ∙ rw (drop_of_length-le ranked {i = i} h) refl)
+  first_found [] = refl
+  first_found (p ∷ ps) =
+      by_bool (coded_test p)
+      (λ t. position_of (unwrap_or (cond t (Some p) (find coded_test ps)) Unlabelled)
+      ≡ or_unlabelled (cond t (some (position_of p)) (first_of test (map position_of ps))))
+      (λ _. refl) (λ _. first_found ps)
+
+  pub first-of-ranked : position_of (unwrap_or (find coded_test listed) Unlabelled) ≡ or_unlabelled (first_of test ranked)
+  first-of-ranked = first_found listed

@@ -7,22 +7,22 @@ use mathlib.Core.List.{List, [], ◌∷◌, ◌++◌, map, append_assoc, append-
 use Prim.Native.Nat.{ℕ, suc, ◌+◌, ◌-◌, ◌/◌, ◌≤◌, ◌<◌}
 use native.Mathlib.Omega.{arith}
 use native.Mathlib.Numerals.{add-one}
-use lib.ListN.{length, get_or, set, take, drop, length-map, length-set, drop_of_length-le}
+use lib.ListN.{length, get_or, set, take, drop, length-set, drop_of_length-le}
+use lib.Seq.{take_all}
 use Rattle.geometry.specs.Lists.{first_of}
 use Rattle.geometry.specs.Mark.{Mark}
 use Rattle.geometry.specs.Strip.{Strip, marks_of}
-use Rattle.geometry.specs.Pass.{written}
 use Rattle.geometry.specs.Position.{Side, above, below, Direction, leftward, rightward, Position, at, code}
 use Rattle.geometry.specs.inner.At.{mark_at}
 use Rattle.geometry.specs.inner.Machine.{next_above, next_below}
 use Rattle.geometry.proofs.Accepted.{marks-from, length-marks}
-use Rattle.geometry.proofs.Lent.{written-whole, take_more, drop_more}
+use Rattle.geometry.proofs.Lent.{take_more}
 use Rattle.best.specs.inner.Worth.{earned_by, worth, picked, picked_from, best_from, whole_worth, whole_choice}
-use Rattle.best.specs.inner.Names.{last_after, reach_named, reach_at}
+use Rattle.best.specs.inner.Names.{last_after, reach_at}
 use Rattle.best.specs.inner.Checked.{Checked}
 use Rattle.best.specs.inner.Table.{cell_after, cell_worth, Filled}
-use Rattle.best.specs.inner.Trial.{picked_at}
-use Rattle.best.proofs.WorthIsBest.{picked-attains, best-length}
+use Rattle.best.specs.inner.Trial.{BeforeMark, picked_at}
+use Rattle.best.proofs.WorthIsBest.{picked-attains}
 use Rattle.best.proofs.NamedReaches.{above-named, below-named}
 use Rattle.best.proofs.CellsHoldWorth.{last-up-to, label-last, after-worth, above-after, below-after}
 
@@ -41,37 +41,33 @@ abbrev pub whole_codes : ℕ → Strip → List ℕ
 whole_codes g s = map code (whole_choice g s)
 
 -- where the walk stands before the mark with index k
-pub record Walked (g : ℕ) (s : Strip) (old positions : List ℕ) (x y target k : ℕ) : Type 0 where
-  pub within : k ≤ length s.places
-  pub same_length : length positions ≡ length old
+pub record Walked (g : ℕ) (s : Strip) (positions : List ℕ) (x y target k : ℕ) : Type 0 where
+  pub one_each : length positions ≡ length s.places
   pub above_before : x / 2 ≤ k
   pub below-before : y / 2 ≤ k
   pub target_is : target ≡ worth g (reach_at g s x) (reach_at g s y) (drop k (marks_of s))
   pub written-so-far : take k positions ++ rest_codes g s x y k ≡ whole_codes g s
-  pub rest-kept : drop k positions ≡ drop k old
 
 module _ (g : ℕ) (s : Strip) (work : List ℕ) (filled : Filled g s 0 work) where
   -- the first cell holds what all marks earn
   pub first_cell : get_or work 0 0 ≡ whole_worth g s
-  unfolding cell_worth reach_named
+  unfolding cell_worth reach_at
   first_cell = filled.cell 0 0 (omega arith) (omega arith)
 
   -- nothing is written and all is left to earn
-  pub walk-starts : (old : List ℕ) → Walked g s old old 0 0 (get_or work 0 0) 0
-  unfolding reach_named
-  walk-starts old =
+  pub walk-starts : (positions : List ℕ) → length positions ≡ length s.places → Walked g s positions 0 0 (get_or work 0 0) 0
+  unfolding reach_at
+  walk-starts positions one_each =
       record {
-        within = omega arith;
-        same_length = refl;
+        one_each = one_each;
         above_before = omega arith;
         below-before = omega arith;
         target_is = first_cell;
         written-so-far = refl;
-        rest-kept = refl;
       }
 
   -- at the mark with index k
-  module _ (checked : Checked s work) (old positions : List ℕ) (x y target k : ℕ) (walked : Walked g s old positions x y target k)
+  module _ (checked : Checked g s) (positions : List ℕ) (x y target k : ℕ) (walked : Walked g s positions x y target k)
       (in-strip : k < length s.places) where
     -- the mark, the marks after it, and the two reaches beside it
     abbrev m : Mark
@@ -86,6 +82,10 @@ module _ (g : ℕ) (s : Strip) (work : List ℕ) (filled : Filled g s 0 work) wh
     abbrev b : ℕ
     b = reach_at g s y
 
+    -- the last labels are of marks before it
+    pub before-mark : BeforeMark s k x y
+    before-mark = record { in-strip = in-strip; above_before = walked.above_before; below-before = walked.below-before }
+
     -- what is left is the mark and the marks after it
     left_is : drop k (marks_of s) ≡ m ∷ rest
     left_is = marks-from s k checked.same-lengths checked.same-weights in-strip
@@ -97,22 +97,25 @@ module _ (g : ℕ) (s : Strip) (work : List ℕ) (filled : Filled g s 0 work) wh
         let p = at t d in
         let last = label-last k x y t d walked.above_before walked.below-before in
         filled.cell (last_after above k p x) (last_after below k p y)
-        (above-after g s work k x y checked in-strip walked.above_before walked.below-before p)
-        (below-after g s work k x y checked in-strip walked.above_before walked.below-before p)
+        (above-after g s k x y checked before-mark p)
+        (below-after g s k x y checked before-mark p)
         ∙ after-worth g s 0 k x y p (omega arith)
 
     -- the program's choice is the choice of the definition
-    pub chosen_is : picked_at g s work k x y target ≡ picked_from g a b m rest
+    chosen_is : picked_at g s work k x y target ≡ picked_from g a b m rest
     unfolding first_of
     chosen_is =
         rw (walked.target_is, left_is)
         (picked_same a b m (λ p. get_or work (cell_after k x y p) 0) (λ p. worth g (next_above g a m p) (next_below g b m p) rest) (worth g a b (m ∷ rest))
         labelled-cell)
 
-    module _ (p : Position) (e : p ≡ picked_from g a b m rest) where
+    module _ (p : Position) (chosen : p ≡ picked_at g s work k x y target) where
+      as-defined : p ≡ picked_from g a b m rest
+      as-defined = chosen ∙ chosen_is
+
       -- what the mark earns and what the marks after it earn is all that was left to earn
       earned-and-rest : earned_by (get_or s.weights k 0) p + worth g (next_above g a m p) (next_below g b m p) rest ≡ target
-      earned-and-rest = rw e ((picked-attains g a b m rest).1 ∙ ap (worth g a b) (sym left_is) ∙ sym walked.target_is)
+      earned-and-rest = rw as-defined ((picked-attains g a b m rest).1 ∙ ap (worth g a b) (sym left_is) ∙ sym walked.target_is)
 
       -- so the program may take the mark's weight off
       pub earned-within : earned_by (get_or s.weights k 0) p ≤ target
@@ -121,41 +124,34 @@ module _ (g : ℕ) (s : Strip) (work : List ℕ) (filled : Filled g s 0 work) wh
       -- the best choice of what is left begins with the mark's position
       begins-with : rest_codes g s x y k ≡ code p ∷ map code (best_from g (next_above g a m p) (next_below g b m p) rest)
       unfolding best_from
-      begins-with = rw (left_is, e) refl
+      begins-with = rw (left_is, as-defined) refl
 
       -- the mark's position is written, each side has its last label, and the walk stands before the next mark
       pub walk-on : (v x' y' w : ℕ) → v ≡ code p → x' ≡ last_after above k p x → y' ≡ last_after below k p y
-          → w ≡ earned_by (get_or s.weights k 0) p → k < length positions → Walked g s old (set positions k v) x' y' (target - w) (k + 1)
-      walk-on v x' y' w ev ex ey ew inside =
+          → w ≡ earned_by (get_or s.weights k 0) p → Walked g s (set positions k v) x' y' (target - w) (k + 1)
+      walk-on v x' y' w ev ex ey ew =
           record {
-            within = omega arith;
-            same_length = length-set positions k v ∙ walked.same_length;
+            one_each = length-set positions k v ∙ walked.one_each;
             above_before = rw (ex, add-one k) (last-up-to above k x p walked.above_before);
             below-before = rw (ey, add-one k) (last-up-to below k y p walked.below-before);
             target_is = rw (ex, ey, add-one k, above-named g s k x p, below-named g s k y p) (omega (arith, earned-and-rest));
             written-so-far =
-                rw (take_more k v positions inside, ev, ex, ey, add-one k, above-named g s k x p, below-named g s k y p)
+                rw (take_more k v positions (omega (arith, walked.one_each)), ev, ex, ey, add-one k, above-named g s k x p, below-named g s k y p)
                 (append_assoc (take k positions) (code p ∷ []) _
                 ∙ ap (λ (l : List ℕ). take k positions ++ l) (sym begins-with)
                 ∙ walked.written-so-far);
-            rest-kept = drop_more k v positions old walked.rest-kept;
           }
 
--- at the end the used part holds the best choice
-module _ (g : ℕ) (s : Strip) (work old positions : List ℕ) (x y target k : ℕ) (checked : Checked s work) (walked : Walked g s old positions x y target k)
+-- at the end the best choice is written
+module _ (g : ℕ) (s : Strip) (positions : List ℕ) (x y target k : ℕ) (checked : Checked g s) (walked : Walked g s positions x y target k)
     (at-end : length s.places ≤ k) where
   -- no mark is left, so what is written is the whole choice
-  one-for-each : length (marks_of s) ≡ length s.places
-  one-for-each = length-marks s checked.same-lengths checked.same-weights
-
   none_left : rest_codes g s x y k ≡ []
-  none_left = rw (drop_of_length-le (marks_of s) {i = k} (omega (arith, one-for-each))) (unfold best_from in refl)
+  none_left =
+      rw (drop_of_length-le (marks_of s) {i = k} (omega (arith, length-marks s checked.same-lengths checked.same-weights)))
+      (unfold best_from in refl)
 
-  all-written : take k positions ≡ whole_codes g s
-  all-written = sym (append-nil (take k positions)) ∙ ap (λ (l : List ℕ). take k positions ++ l) (sym none_left) ∙ walked.written-so-far
-
-  whole_length : length (whole_codes g s) ≡ k
-  whole_length = length-map (whole_choice g s) code ∙ best-length g _ _ (marks_of s) ∙ omega (arith, walked.within, one-for-each)
-
-  pub walk_ends : positions ≡ written (whole_codes g s) old
-  walk_ends = written-whole k positions (whole_codes g s) old all-written walked.rest-kept whole_length
+  pub walk_ends : positions ≡ whole_codes g s
+  walk_ends =
+      sym (take_all k positions (omega (arith, walked.one_each))) ∙ sym (append-nil (take k positions))
+      ∙ ap (λ (l : List ℕ). take k positions ++ l) (sym none_left) ∙ walked.written-so-far

@@ -2,6 +2,7 @@
 pub mod Worth
 pub mod Names
 pub mod Checked
+pub mod Handed
 pub mod Table
 pub mod Trial
 pub mod Row

@@ -3,8 +3,8 @@
 
 pub mod choice;
 mod left_out;
+mod marks;
 mod name;
-mod room;
 mod row;
 mod table;
 mod walk;
@@ -12,22 +12,23 @@ mod walk;
 ghost use Rattle.std.specs.Prelude.{◌≡◌, ◌≤◌, length};
 ghost use Rattle.geometry.specs.Refusal.{verdict_of};
 ghost use Rattle.geometry.specs.Strip.{lists_of};
-ghost use Rattle.best.specs.Best.{BestContract, best_lent, best_checks, best_answer};
-ghost use Rattle.best.specs.inner.Names.{Reaches};
-ghost use Rattle.best.specs.inner.Checked.{CheckedAt, Labelled};
+ghost use Rattle.best.specs.Best.{BestContract, best_lent, best_checks, best_answer, work_named};
+ghost use Rattle.best.specs.inner.Checked.{Labelled};
+ghost use Rattle.best.specs.inner.Handed.{strip_of};
 
+use crate::marks::Marks;
 use choice::Choice;
 use geometry::entry::check_pass;
 use geometry::limits::MOST_SHORT;
 use geometry::refusal::Refusal;
 use geometry::strip::Strip;
 use geometry::work::clear;
-use name::NAMES;
 
 // How many numbers of the work area document 01 names.
 pub const WORK_NAMED: usize = 15000;
 
-// The checks on entry. The shorter of the two answer lists is the one that 9 is about.
+// The checks on entry. The shorter of the two answer lists is the one that 9 is about. The lists are handed over for their lengths alone,
+// because the contract is about what is lent.
 fn check_entry(
     strip: Strip,
     gap: u8,
@@ -43,39 +44,17 @@ fn check_entry(
     check_pass(strip, gap, MOST_SHORT, shortest, WORK_NAMED, work.len())
 }
 
-// The positions and their sum, by the table and the walk; leaves zeros in the work area. The table looks reaches up in the list; the walk,
-// which needs few, finds them by the gap.
-fn fill_and_walk(
-    strip: Strip,
-    gap: u8,
-    reaches: &[u16],
-    positions: &mut [u8],
-    work: &mut [u32],
-) -> u32
-    requires checked { CheckedAt gap (lists_of strip) work.old }
-    requires reaches_known { Reaches gap strip.places.now strip.lengths.now reaches.now }
-    requires positions_long { length strip.places.now ≤ length positions.old }
-    ensures { Labelled gap
-        (lists_of strip.entry) positions.old
-        positions.new work.old work.new result }
+// The positions and their sum, by the table and the walk; leaves zeros in the work area.
+fn label_marks(marks: Marks, positions: &mut [u8], work: &mut [u32]) -> u32
+    requires one_each { length positions.old ≡ length marks.places.now }
+    requires roomy { work_named ≤ length work.old }
+    ensures { Labelled marks.entry.gap (strip_of marks.entry) positions.new work.old work.new result }
 {
-    table::fill(strip, reaches, work);
-    walk::place_labels(strip, gap, positions, work);
+    table::fill(marks, work);
+    walk::place_labels(marks, positions, work);
     let sum = work[0];
     clear(work, WORK_NAMED, 0);
     sum
-}
-
-// The same for an accepted strip.
-fn label_marks(strip: Strip, gap: u8, positions: &mut [u8], work: &mut [u32]) -> u32
-    requires { (CheckedAt gap (lists_of strip) work.old) × (length strip.places.now ≤ length positions.old) }
-    ensures { Labelled gap
-        (lists_of strip.entry) positions.old
-        positions.new work.old work.new result }
-{
-    let mut reaches = [0u16; NAMES];
-    name::set_reaches(strip, gap, &mut reaches);
-    fill_and_walk(strip, gap, &reaches, positions, work)
 }
 
 // A choice with the greatest sum of an overlap-free choice, at a gap of 0 to 8 dots. `positions` gets a position for each mark, 0 for
@@ -99,7 +78,14 @@ pub fn best(
         (best_lent positions.new left_out.new work.new) (best_answer result) }
 {
     check_entry(strip, gap, positions, left_out, work)?;
-    let sum = label_marks(strip, gap, positions, work);
-    let count = left_out::list(strip.weights, positions, left_out);
+    let marks = Marks {
+        places: strip.places,
+        lengths: strip.lengths,
+        weights: strip.weights,
+        gap,
+    };
+    let used = &mut positions[..strip.places.len()];
+    let sum = label_marks(marks, used, work);
+    let count = left_out::list(marks, used, left_out);
     Ok(Choice { sum, count })
 }

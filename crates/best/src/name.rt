@@ -1,16 +1,13 @@
 // Names of labels. A side of the line is described by its last label, and a label by its name: twice the number of its mark, and one
-// more if it lies to the right of the mark. 0 and 1 name no label.
-ghost use Rattle.std.specs.Prelude.{◌≡◌, ◌≤◌, ◌<◌, length};
+// more if it lies to the right of the mark. 0 and 1 name no label. A name is a number because the table is indexed by two of them.
+ghost use Rattle.std.specs.Prelude.{◌≡◌, ◌<◌};
 ghost use Rattle.geometry.specs.Position.{above, below};
-ghost use Rattle.geometry.specs.Strip.{lists_of, most_short};
+ghost use Rattle.geometry.specs.Strip.{most_short};
 ghost use Rattle.geometry.specs.inner.Positions.{position_of, side_of, direction_at};
-ghost use Rattle.best.specs.inner.Names.{names_before, name_of, last_after, reach_at, Known, Reaches};
+ghost use Rattle.best.specs.inner.Names.{name_of, last_after};
 
-use geometry::dot::dot_of;
 use geometry::limits::MOST_SHORT;
-use geometry::outside::EMPTY_REACH;
 use geometry::position::{Position, Side};
-use geometry::strip::Strip;
 
 // How many names there are for a side's last label: two for none, and two for each mark.
 pub const NAMES: usize = 2 * MOST_SHORT + 2;
@@ -57,34 +54,4 @@ fn last_after(side: Side, k: usize, p: Position, last: usize) -> usize
     ensures { result ≡ last_after (side_of side) k (position_of p) last }
 {
     if p.lies_on(side) { name_of(k, p) } else { last }
-}
-
-// The reach, as a dot, of a side whose last label has this name: the label's right end with the gap, which counts here and nowhere else.
-pub fn reach_of(strip: Strip, gap: u8, name: usize) -> u16
-    requires { Known gap strip.places.now strip.lengths.now name }
-    ensures { result ≡ reach_at gap (lists_of strip.entry) name }
-{
-    if name < 2 {
-        return dot_of(EMPTY_REACH);
-    }
-    let i = name / 2 - 1;
-    let place = dot_of(strip.places[i]);
-    let end = if name % 2 == 0 {
-        place
-    } else {
-        place + strip.lengths[i] as u16
-    };
-    end + gap as u16
-}
-
-// Puts the reach of every name into a list, so that the loops of the table look it up.
-pub fn set_reaches(strip: Strip, gap: u8, reaches: &mut [u16])
-    requires known { Known gap strip.places.now strip.lengths.now 0 }
-    requires reaches_long { names_before (length strip.places.now) ≤ length reaches.old }
-    requires few { length strip.places.now ≤ most_short }
-    ensures { Reaches gap strip.entry.places.now strip.entry.lengths.now reaches.new }
-{
-    for name in 0..2 * strip.places.len() + 2 {
-        reaches[name] = reach_of(strip, gap, name);
-    }
 }

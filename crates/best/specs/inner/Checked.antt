@@ -4,33 +4,21 @@ use Rattle.std.specs.List.{list_all}
 use Rattle.geometry.specs.Mark.{place_in_range_lem, weight_in_range_lem}
 use Rattle.geometry.specs.Strip.{Strip, most_short}
 use Rattle.geometry.specs.Position.{code}
-use Rattle.geometry.specs.Pass.{most_gap, written, cleared}
+use Rattle.geometry.specs.Pass.{most_gap, cleared}
 use Rattle.best.specs.Best.{work_named}
 use Rattle.best.specs.inner.Worth.{whole_worth, whole_choice}
-use Rattle.best.specs.inner.Names.{Reaches}
 
--- with the size of the work area
-pub record Checked (s : Strip) (work : List ℕ) : Type 0 where
+-- of its lists, and of a gap of g dots
+pub record Checked (g : ℕ) (s : Strip) : Type 0 where
   pub same-lengths : length s.places ≡ length s.lengths
   pub same-weights : length s.places ≡ length s.weights
   pub few : length s.places ≤ most_short
   pub places-good : list_all place_in_range_lem s.places ≡ true
   pub weights-good : list_all weight_in_range_lem s.weights ≡ true
-  pub roomy : work_named ≤ length work
-
--- the same with a gap that the passes take
-pub record CheckedAt (g : ℕ) (s : Strip) (work : List ℕ) : Type 0 where
-  pub checked : Checked s work
   pub gap-narrow : g ≤ most_gap
 
--- and with the reaches of the strip's labels, at some gap
-pub record Ready (s : Strip) (reaches work : List ℕ) : Type 0 where
-  pub checked : Checked s work
-  pub gap : ℕ
-  pub reaches_known : Reaches gap s.places s.lengths reaches
-
--- the strip's choice at a gap of g dots is written, its sum given, and the work area cleared
-pub record Labelled (g : ℕ) (s : Strip) (old_positions positions old_work work : List ℕ) (sum : ℕ) : Type 0 where
-  pub positions-written : positions ≡ written (map code (whole_choice g s)) old_positions
+-- the positions are those of the strip's choice at a gap of g dots, its sum is given, and the work area cleared
+pub record Labelled (g : ℕ) (s : Strip) (positions old_work work : List ℕ) (sum : ℕ) : Type 0 where
+  pub positions-are : positions ≡ map code (whole_choice g s)
   pub sum_is : sum ≡ whole_worth g s
   pub work-cleared : work ≡ cleared work_named 0 old_work

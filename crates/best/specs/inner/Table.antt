@@ -1,12 +1,11 @@
 -- The table: a cell for each pair of names of last labels, one above and one below. A cell holds what the marks from some index on
 -- can still earn beside them.
-use Rattle.std.specs.Prelude.{◌≡◌, List, cond, ℕ, suc, ◌+◌, ◌*◌, ◌/◌, ◌<◌, max, ltb, length, get_or, drop}
+use Rattle.std.specs.Prelude.{◌≡◌, List, cond, ℕ, suc, ◌+◌, ◌*◌, ◌/◌, ◌≤◌, ◌<◌, max, ltb, length, get_or, drop}
 use Rattle.geometry.specs.Strip.{Strip, marks_of}
 use Rattle.geometry.specs.Position.{above, below, Position}
 use Rattle.best.specs.Best.{work_named}
 use Rattle.best.specs.inner.Worth.{worth}
-use Rattle.best.specs.inner.Names.{names, last_after, reach_at, AtEveryGap}
-use Rattle.best.specs.inner.Checked.{Ready}
+use Rattle.best.specs.inner.Names.{names, last_after, reach_at, Reaches}
 
 abbrev pub cell_of : ℕ → ℕ → ℕ
 cell_of x y = x * names + y
@@ -30,12 +29,13 @@ pub record Filled (g : ℕ) (s : Strip) (k : ℕ) (table : List ℕ) : Type 0 wh
   pub cell : (x y : ℕ) → x < names → y < names → get_or table (cell_of x y) 0 ≡ cell_worth g s k x y
 
 -- what is asked where the table is renewed for mark k, up to the bound
-pub record Renewing (s : Strip) (reaches work : List ℕ) (k bound : ℕ) : Type 0 where
-  pub ready : Ready s reaches work
+pub record Renewing (g : ℕ) (s : Strip) (reaches work : List ℕ) (k bound : ℕ) : Type 0 where
+  pub reaches_known : Reaches g s reaches
+  pub roomy : work_named ≤ length work
   pub in-strip : k < length s.places
-  pub partly : AtEveryGap s reaches (λ g. Partly g s k bound work)
+  pub partly : Partly g s k bound work
 
 -- and what is given: the table up to another bound, the work area beyond its named part as it was
-pub record Renewed (s : Strip) (reaches : List ℕ) (k bound : ℕ) (old work : List ℕ) : Type 0 where
-  pub partly : AtEveryGap s reaches (λ g. Partly g s k bound work)
+pub record Renewed (g : ℕ) (s : Strip) (k bound : ℕ) (old work : List ℕ) : Type 0 where
+  pub partly : Partly g s k bound work
   pub rest-kept : drop work_named work ≡ drop work_named old

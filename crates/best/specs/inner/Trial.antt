@@ -1,16 +1,15 @@
 -- A mark is tried at a position, beside the last labels x above and y below: whether it has room, and what it earns with the marks
 -- after it by the table.
-use Rattle.std.specs.Prelude.{◌≡◌, List, Bool, true, ◌&&◌, ℕ, ◌+◌, ◌*◌, ◌/◌, ◌≤◌, ◌<◌, eqb, ℤ, length, get_or}
+use Rattle.std.specs.Prelude.{List, Bool, ◌&&◌, ℕ, ◌+◌, ◌*◌, ◌/◌, ◌≤◌, ◌<◌, eqb, length, get_or}
 use Rattle.geometry.specs.Lists.{first_of}
-use Rattle.std.specs.List.{list_all}
-use Rattle.geometry.specs.Mark.{place_in_range_lem, most_weight}
+use Rattle.geometry.specs.Mark.{most_weight}
 use Rattle.geometry.specs.Strip.{Strip, most_short}
 use Rattle.geometry.specs.Position.{Position, ranked}
-use Rattle.geometry.specs.Pass.{most_gap}
+use Rattle.geometry.specs.inner.At.{mark_at}
 use Rattle.geometry.specs.inner.Machine.{room_for}
 use Rattle.best.specs.Best.{work_named}
 use Rattle.best.specs.inner.Worth.{earned_by, or_unlabelled}
-use Rattle.best.specs.inner.Names.{names, label_at, reach_at}
+use Rattle.best.specs.inner.Names.{reach_at}
 use Rattle.best.specs.inner.Table.{cell_after}
 
 -- no short strip earns more
@@ -21,39 +20,28 @@ most_sum = most_short * most_weight
 abbrev pub SmallCells : List ℕ → ℕ → ℕ → ℕ → Type 0
 SmallCells work k x y = (p : Position) → get_or work (cell_after k x y p) 0 ≤ most_sum
 
--- what the test of room asks: the mark is one of the strip, the last labels are of marks before it, and the gap is one that the passes take
-pub record RoomAsked (g : ℕ) (zs : List ℤ) (ls : List ℕ) (k x y : ℕ) : Type 0 where
-  pub same-lengths : length zs ≡ length ls
-  pub places-good : list_all place_in_range_lem zs ≡ true
-  pub gap-narrow : g ≤ most_gap
-  pub in-strip : k < length zs
+-- a mark of the strip, and last labels of marks before it
+pub record BeforeMark (s : Strip) (k x y : ℕ) : Type 0 where
+  pub in-strip : k < length s.places
   pub above_before : x / 2 ≤ k
   pub below-before : y / 2 ≤ k
 
--- what adding a weight to a cell asks
-pub record GainAsked (ws work : List ℕ) (k x y : ℕ) : Type 0 where
-  pub in-strip : k < length ws
-  pub few : k < most_short
-  pub above-named : x < names
-  pub below-named : y < names
+-- what trying the mark by the table asks
+pub record TrialAsked (s : Strip) (work : List ℕ) (k x y : ℕ) : Type 0 where
+  pub before : BeforeMark s k x y
   pub roomy : work_named ≤ length work
   pub small : SmallCells work k x y
 
--- both, where mark k is tried
-pub record BeforeMark (g : ℕ) (s : Strip) (work : List ℕ) (k x y : ℕ) : Type 0 where
-  pub room : RoomAsked g s.places s.lengths k x y
-  pub gain : GainAsked s.weights work k x y
-
 -- room for mark k at p beside the last labels, and what it then earns with the marks after it, by the table
 abbrev pub room_at : ℕ → Strip → ℕ → ℕ → ℕ → Position → Bool
-room_at g s k x y p = room_for (reach_at g s x) (reach_at g s y) (label_at s.places s.lengths k) p
+room_at g s k x y p = room_for (reach_at g s x) (reach_at g s y) (mark_at s k) p
 
-abbrev pub gain_at : List ℕ → List ℕ → ℕ → ℕ → ℕ → Position → ℕ
-gain_at ws work k x y p = earned_by (get_or ws k 0) p + get_or work (cell_after k x y p) 0
+abbrev pub gain_at : Strip → List ℕ → ℕ → ℕ → ℕ → Position → ℕ
+gain_at s work k x y p = earned_by (get_or s.weights k 0) p + get_or work (cell_after k x y p) 0
 
 -- it has room and earns exactly target
 abbrev pub attains_at : ℕ → Strip → List ℕ → ℕ → ℕ → ℕ → ℕ → Position → Bool
-attains_at g s work k x y target p = room_at g s k x y p && eqb (gain_at s.weights work k x y p) target
+attains_at g s work k x y target p = room_at g s k x y p && eqb (gain_at s work k x y p) target
 
 -- the first of 2, 3, 1, 4 that does, none if there is no such position
 abbrev pub picked_at : ℕ → Strip → List ℕ → ℕ → ℕ → ℕ → ℕ → Position

@@ -1,41 +1,38 @@
 -- `best::table::fill` meets its contract: the table counts the marks from index k on.
-use mathlib.Core.Path.{◌≡◌, refl, ◌∙◌}
+use mathlib.Core.Path.{◌≡◌, ◌∙◌}
 use Prim.Native.Nat.{suc, ◌-◌}
 use native.Mathlib.Omega.{arith}
-use Rattle.geometry.specs.Strip.{lists_of}
+use Rattle.geometry.proofs.Lent.{drop-cleared}
+use Rattle.best.specs.Best.{work_named}
+use Rattle.best.specs.inner.Handed.{strip_of}
 use Rattle.best.proofs.TableRenewed.{none-renewed, all-renewed, cleared-table}
-use Rattle.best.proofs.RenewedInParts.{ready-again}
 use Rattle.best.proofs.table.fill.Goals as goal
 
 pub loop-k-init : goal.loop-k-init
 loop-k-init c =
-    let s = lists_of c.args.strip in
-    (omega arith, refl, λ g known. cleared-table g s _ c.clear.new.work c.args.work.now c.requires.checked c.clear.ensures, refl)
+    let s = strip_of c.args.marks in
+    record {
+      filled = cleared-table _ s c.clear.new.work c.args.work.now c.args.marks.checked c.clear.ensures;
+      rest_kept = drop-cleared work_named 0 c.clear.new.work c.args.work.now c.clear.ensures;
+    }
 
 pub renew-requires : goal.renew-requires
 renew-requires c =
-    let s = lists_of c.args.strip in
+    let s = strip_of c.args.marks in
     let loop = c.loop-k in
     let one_more : loop.k ≡ suc (loop.k - 1) = omega arith in
     record {
-      ready = ready-again c.args.work.now loop.work c.requires (loop.invariant.1 ∙ c.clear.auto.work);
+      reaches_known = c.reaches-reaches.ensures;
+      roomy = omega (arith, c.clear.auto.work);
       in-strip = omega arith;
-      partly = λ g known. none-renewed g s (loop.k - 1) loop.work (rw one_more at (loop.invariant.2 g known));
+      partly = none-renewed _ s (loop.k - 1) loop.work (rw one_more at loop.invariant.filled);
     }
 
 pub loop-k-preserved : goal.loop-k-preserved
 loop-k-preserved c =
-    let s = lists_of c.args.strip in
-    let h = c.loop-k.invariant in
-    let done = c.renew.ensures in (
-      omega arith,
-      c.renew.auto.work ∙ h.1,
-      λ g known. all-renewed g s (c.loop-k.k - 1) _ (done.partly g known),
-      done.rest-kept ∙ h.3,
-    )
-
-pub returns-clause-filled : goal.returns-clause-filled
-returns-clause-filled c =
-    let h = c.loop-k.invariant in
-    let first : c.loop-k.k ≡ 0 = omega arith in
-    λ g known. rw first at (h.2 g known)
+    let s = strip_of c.args.marks in
+    let done = c.renew.ensures in
+    record {
+      filled = all-renewed _ s (c.loop-k.k - 1) _ done.partly;
+      rest_kept = done.rest-kept ∙ c.loop-k.invariant.rest_kept;
+    }

@@ -1,48 +1,38 @@
 -- `best::table::renew_row` meets its contract: the cells of the row before `below` count mark k, those beyond need no
 -- change, and what the cells share holds all the while.
-use mathlib.Core.Path.{refl, ◌∙◌}
 use native.Mathlib.Omega.{arith}
-use Rattle.geometry.specs.Strip.{lists_of}
+use Rattle.best.specs.inner.Handed.{strip_of}
 use Rattle.best.proofs.TableRenewed.{skip-rest}
-use Rattle.best.proofs.RowGivesCells.{row-asked, cell-asked, one-cell-more}
-use Rattle.best.proofs.RenewedInParts.{renewed-none, renewed-so-far, renewed-more}
+use Rattle.best.proofs.RowGivesCells.{may-try, cell-asked, one-cell-more}
+use Rattle.best.proofs.RenewedInParts.{renewed-so-far, renewed-more}
 use Rattle.best.proofs.table.renew_row.Goals as goal
 
 pub row_of-row-requires : goal.row_of-row-requires
 row_of-row-requires c =
-    row-asked (lists_of c.args.strip) _ _ c.args.k _ c.args.above c.requires.renewing
-    c.requires.above_before
-
-pub loop-below-init : goal.loop-below-init
-loop-below-init c =
-    let s = lists_of c.args.strip in
-    (omega arith, refl, renewed-none s _ c.args.k _ _ _ (omega arith) c.requires.renewing, c.row_of-row.ensures)
+    may-try _ (strip_of c.args.marks) c.args.marks.checked _ _ c.args.k _ c.args.above 0 c.requires.renewing (omega arith) (omega arith)
 
 pub renew_cell-requires : goal.renew_cell-requires
 renew_cell-requires c =
-    let s = lists_of c.args.strip in
+    let s = strip_of c.args.marks in
     let h = c.loop-below.invariant in
-    let next = renewed-so-far s _ c.args.k _ c.loop-below.work _ _ c.requires.renewing h.1 h.2 in
-    cell-asked s _ c.loop-below.work c.args.k _ _ _ h.3 next c.requires.above_before (omega arith)
+    let next = renewed-so-far _ s c.args.k _ _ c.loop-below.work _ _ c.requires.renewing c.loop-below.auto.work h.renewed in
+    cell-asked _ s c.args.marks.checked _ c.loop-below.work c.args.k _ _ _ h.shared next c.requires.above_before (omega arith)
 
 pub loop-below-preserved : goal.loop-below-preserved
 loop-below-preserved c =
-    let s = lists_of c.args.strip in
+    let s = strip_of c.args.marks in
     let h = c.loop-below.invariant in
-    let next = renewed-so-far s _ c.args.k _ c.loop-below.work _ _ c.requires.renewing h.1 h.2 in
-    let more = one-cell-more s _ c.loop-below.work c.args.k _ _ _ h.3 next c.requires.above_before (omega arith) _ c.renew_cell.ensures in (
-      omega arith,
-      c.renew_cell.auto.work ∙ h.1,
-      renewed-more s _ c.args.k _ c.loop-below.work _ _ _ _ (omega arith) h.2 more.0,
-      more.1,
-    )
+    let next = renewed-so-far _ s c.args.k _ _ c.loop-below.work _ _ c.requires.renewing c.loop-below.auto.work h.renewed in
+    let more =
+    one-cell-more _ s c.args.marks.checked _ c.loop-below.work c.args.k _ _ _ h.shared next c.requires.above_before (omega arith) _
+    c.renew_cell.ensures in
+    record { renewed = renewed-more _ s c.args.k _ c.loop-below.work _ _ _ _ (omega arith) h.renewed more.0; shared = more.1 }
 
 pub returns : goal.returns
 returns c =
-    let s = lists_of c.args.strip in
     let loop = c.loop-below in
+    let h = loop.invariant.renewed in
     record {
-      partly = λ g known.
-          skip-rest g s c.args.k loop.work c.args.above loop.below (omega arith) (omega arith) (loop.invariant.2.partly g known);
-      rest-kept = loop.invariant.2.rest-kept;
+      partly = skip-rest _ (strip_of c.args.marks) c.args.k loop.work c.args.above loop.below (omega arith) (omega arith) h.partly;
+      rest-kept = h.rest-kept;
     }
