@@ -7,34 +7,16 @@ ghost use Rattle.geometry.specs.inner.Positions.{position_of, side_of, direction
 ghost use Rattle.best.specs.inner.Names.{name_of, last_after};
 
 use geometry::limits::MOST_SHORT;
-use geometry::position::{Position, Side};
+use geometry::position::{Position, Side, Sides};
 
 // How many names there are for a side's last label: two for none, and two for each mark.
 pub const NAMES: usize = 2 * MOST_SHORT + 2;
 
 // The last labels of the two sides.
-#[derive(Clone, Copy)]
-pub struct LastLabels {
-    pub above: usize,
-    pub below: usize,
-}
+pub type LastLabels = Sides<usize>;
 
 // The two sides before the first mark.
-pub const NO_LABELS: LastLabels = LastLabels { above: 0, below: 0 };
-
-impl LastLabels {
-    // The last labels once mark k is at p.
-    pub fn after(self, k: usize, p: Position) -> LastLabels
-        requires { k < most_short }
-        ensures above_is { result.above ≡ last_after above k (position_of p) self.above }
-        ensures below_is { result.below ≡ last_after below k (position_of p) self.below }
-    {
-        LastLabels {
-            above: last_after(Side::Above, k, p, self.above),
-            below: last_after(Side::Below, k, p, self.below),
-        }
-    }
-}
+pub const NO_LABELS: LastLabels = Sides { above: 0, below: 0 };
 
 // The name of the label of mark k, counted from 0, at p.
 fn name_of(k: usize, p: Position) -> usize
@@ -54,4 +36,16 @@ fn last_after(side: Side, k: usize, p: Position, last: usize) -> usize
     ensures { result ≡ last_after (side_of side) k (position_of p) last }
 {
     if p.lies_on(side) { name_of(k, p) } else { last }
+}
+
+// The last labels of both sides once mark k is at p.
+pub fn after(last: LastLabels, k: usize, p: Position) -> LastLabels
+    requires { k < most_short }
+    ensures above_is { result.above ≡ last_after above k (position_of p) last.above }
+    ensures below_is { result.below ≡ last_after below k (position_of p) last.below }
+{
+    Sides {
+        above: last_after(Side::Above, k, p, last.above),
+        below: last_after(Side::Below, k, p, last.below),
+    }
 }

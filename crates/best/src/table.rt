@@ -10,9 +10,9 @@ ghost use Rattle.best.specs.inner.Row.{RowOf, CellAsked, cell_by};
 
 use crate::WORK_NAMED;
 use crate::marks::Marks;
-use crate::name::{LastLabels, NAMES};
+use crate::name::{LastLabels, NAMES, after};
 use crate::row::Row;
-use geometry::position::Position;
+use geometry::position::{Position, Sides};
 use geometry::work::clear;
 
 // What mark k, counted from 0, at p and the marks after it earn, by the table.
@@ -20,8 +20,8 @@ pub fn gain(marks: Marks, work: &[u32], k: usize, p: Position, last: LastLabels)
     requires { TrialAsked (strip_of marks) work.now k last.above last.below }
     ensures { result ≡ gain_at (strip_of marks.entry) work.now k last.above last.below (position_of p) }
 {
-    let after = last.after(k, p);
-    marks.earned(k, p) as u32 + work[after.above * NAMES + after.below]
+    let last = after(last, k, p);
+    marks.earned(k, p) as u32 + work[last.above * NAMES + last.below]
 }
 
 // What the cells of the row of `above` share for mark k. A label below becomes the last one there, whatever the last one was: 0 stands
@@ -30,7 +30,7 @@ fn row_of(marks: Marks, reaches: &[u16; NAMES], work: &[u32], k: usize, above: u
     requires { TrialAsked (strip_of marks) work.now k above 0 }
     ensures { RowOf (strip_of marks.entry) reaches.now work.now k above result }
 {
-    let last = LastLabels { above, below: 0 };
+    let last = Sides { above, below: 0 };
     Row {
         reach: reaches[above],
         left: marks.begin_of(k, Position::BelowLeft),
