@@ -57,7 +57,7 @@ impl Draw {
 
     // The next strip.
     pub fn strip(self, source: &mut Source, gap: u8) -> Drawn {
-        let count = usize::from(source.below(7));
+        let count = usize::from(source.below(MOST as u8 + 1));
         let mut dot = 40;
         let mut all = [Mark {
             dot,

@@ -5,23 +5,15 @@ use agreed::output::Output;
 use agreed::tally::Tally;
 use std::fmt::Write;
 
-// What a strip shows of a pass: it disagrees, or agrees, or agrees and has a label for every mark.
+// Whether every mark of a strip has a label.
 #[derive(Clone, Copy, PartialEq, Eq)]
-pub enum Outcome {
-    Disagrees,
-    Agrees,
-    AgreesWhole,
+pub enum Labelled {
+    Every,
+    NotEvery,
 }
 
-impl Outcome {
-    pub fn new(agrees: bool, is_whole: bool) -> Outcome {
-        match (agrees, is_whole) {
-            (false, _) => Outcome::Disagrees,
-            (true, false) => Outcome::Agrees,
-            (true, true) => Outcome::AgreesWhole,
-        }
-    }
-}
+// What a strip shows of a pass: what both give it if the pass agrees with the search, or nothing.
+pub type Outcome = Option<Labelled>;
 
 // How many strips of a group agree, and in how many every mark has a label.
 #[derive(Clone, Copy)]
@@ -37,8 +29,8 @@ impl Strips {
     }
 
     fn count(&mut self, outcome: Outcome) {
-        let is_whole = outcome == Outcome::AgreesWhole;
-        self.tally.count(outcome != Outcome::Disagrees);
+        let is_whole = outcome == Some(Labelled::Every);
+        self.tally.count(outcome.is_some());
         self.whole = self.whole.wrapping_add(u32::from(is_whole));
     }
 
@@ -78,7 +70,7 @@ pub fn random<F: Fn(&Drawn) -> Outcome + Drop>(name: &str, seed: u64, draw: Draw
     for strip in 0..STRIPS {
         let drawn = draw.strip(&mut source, gap_of(strip));
         let outcome = compared(&drawn);
-        if outcome == Outcome::Disagrees {
+        if outcome.is_none() {
             print_strip(name, &drawn);
         }
         strips.count(outcome);

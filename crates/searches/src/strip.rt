@@ -1,5 +1,6 @@
 // Pseudo-random strips of up to 6 marks.
 ghost use Rattle.std.specs.Prelude.{◌≤◌, length};
+ghost use Rattle.searches.specs.declared.strip.TheConstants.{MOST};
 
 use geometry::strip::Strip;
 use std::fmt;
@@ -44,29 +45,19 @@ pub struct Drawn {
     all: [Mark; MOST],
     count: usize,
     pub gap: u8,
-    ghost fits: { count ≤ 6 },
-}
-
-// The same marks as the lists that the passes take.
-#[derive(Clone, Copy)]
-pub struct Lists {
-    places: [i16; MOST],
-    lengths: [u8; MOST],
-    weights: [u16; MOST],
-    count: usize,
-    ghost fits: { count ≤ 6 },
+    ghost fits: { count ≤ MOST },
 }
 
 impl Drawn {
     // The strip of the first so many of these marks.
     pub fn new(all: [Mark; MOST], count: usize, gap: u8) -> Drawn
-        requires { count ≤ 6 }
+        requires { count ≤ MOST }
     {
         Drawn { all, count, gap }
     }
 
     pub fn marks(&self) -> &[Mark]
-        ensures { length result.now ≤ 6 }
+        ensures { length result.now ≤ MOST }
     {
         &self.all[..self.count]
     }
@@ -80,22 +71,17 @@ impl Drawn {
         Some(wide)
     }
 
-    pub fn lists(&self) -> Lists {
-        Lists {
-            places: self.all.map(|mark| mark.place()),
-            lengths: self.all.map(|mark| mark.length),
-            weights: self.all.map(|mark| mark.weight),
-            count: self.count,
-        }
-    }
-}
-
-impl Lists {
-    pub fn strip(&self) -> Strip<'_> {
-        Strip {
-            places: &self.places[..self.count],
-            lengths: &self.lengths[..self.count],
-            weights: &self.weights[..self.count],
-        }
+    // What a call gives with the strip as the lists that the passes take.
+    pub fn with_lists<R, F: FnOnce(Strip) -> R>(&self, call: F) -> R
+        requires { F.IsAlwaysCallable call }
+    {
+        let places = self.all.map(Mark::place);
+        let lengths = self.all.map(|mark| mark.length);
+        let weights = self.all.map(|mark| mark.weight);
+        call(Strip {
+            places: &places[..self.count],
+            lengths: &lengths[..self.count],
+            weights: &weights[..self.count],
+        })
     }
 }
