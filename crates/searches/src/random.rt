@@ -41,25 +41,10 @@ impl Strips {
     }
 }
 
-// The line for a strip on which a pass of this group disagrees: the gap, and place, length and weight of each mark.
-fn print_strip(group: &str, drawn: &Drawn) {
-    let gap = drawn.gap;
-    let _ = write!(Output, "{group} disagrees at gap {gap} on");
-    for mark in drawn.marks() {
-        let _ = write!(Output, " {mark},");
-    }
-    let _ = writeln!(Output);
-}
+// A group has 500 strips at each gap: 0 to 8 in turn.
+const GAPS: u8 = 9;
 
-// How many strips a group has: 500 at each gap.
-const STRIPS: u32 = 4500;
-
-const GAPS: u32 = 9;
-
-// The gap of a strip: 0 to 8 in turn.
-fn gap_of(strip: u32) -> u8 {
-    (strip % GAPS) as u8
-}
+const STRIPS: usize = 4500;
 
 // A group: the strips from a seed on, each given to what compares a pass with the search.
 pub fn random<F: Fn(&Drawn) -> Outcome + Drop>(name: &str, seed: u64, draw: Draw, compared: F)
@@ -67,11 +52,11 @@ pub fn random<F: Fn(&Drawn) -> Outcome + Drop>(name: &str, seed: u64, draw: Draw
 {
     let mut source = Source::new(seed);
     let mut strips = Strips::new();
-    for strip in 0..STRIPS {
-        let drawn = draw.strip(&mut source, gap_of(strip));
+    for gap in (0..GAPS).cycle().take(STRIPS) {
+        let drawn = draw.strip(&mut source, gap);
         let outcome = compared(&drawn);
         if outcome.is_none() {
-            print_strip(name, &drawn);
+            let _ = writeln!(Output, "{name} disagrees at {drawn}");
         }
         strips.count(outcome);
     }

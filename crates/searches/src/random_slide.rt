@@ -4,7 +4,6 @@ ghost use Rattle.std.specs.Prelude.{◌≤◌};
 
 use crate::choices::Model;
 use crate::random::{Labelled, Outcome};
-use crate::search::Unfinished;
 use crate::strip::Drawn;
 use crate::{labels, leftmost, search, slid};
 use agreed::lists;
@@ -17,6 +16,7 @@ struct Written {
     edges: [i16; 8],
 }
 
+// Whether every element of a list is this value.
 fn are_all<T: Copy + PartialEq>(list: &[T], value: T) -> bool {
     list.iter().all(|element| *element == value)
 }
@@ -30,7 +30,7 @@ impl Written {
             && are_all(&self.edges[marks..], lists::UNWRITTEN_EDGE)
     }
 
-    // Whether the lists are a placing with every label as far left as it goes.
+    // Whether the lists are a placing with every label as far left as it goes, and nothing is written behind the last mark.
     fn is_leftmost_placing(&self, drawn: &Drawn) -> bool {
         let Some(digits) = slid::digits_of(drawn, &self.sides, &self.edges) else {
             return false;

@@ -48,6 +48,18 @@ pub struct Drawn {
     ghost fits: { count ≤ MOST },
 }
 
+// The gap, and place, length and weight of each mark.
+impl fmt::Display for Drawn {
+    fn fmt<W: fmt::Write>(&self, f: &mut fmt::Formatter<W>) -> fmt::Result {
+        let gap = self.gap;
+        write!(f, "gap {gap} on")?;
+        for mark in self.marks() {
+            write!(f, " {mark},")?;
+        }
+        Ok(())
+    }
+}
+
 impl Drawn {
     // The strip of the first so many of these marks.
     pub fn new(all: [Mark; MOST], count: usize, gap: u8) -> Drawn
