@@ -8,7 +8,7 @@ use geometry::refusal::Refusal;
 use geometry::strip::Strip;
 
 // What the pass hands back, with what it gives beside the positions.
-#[derive(Clone, Copy, PartialEq, Eq)]
+#[derive(Clone, Copy, PartialEq)]
 pub struct Answer<T> {
     given: Result<T, Refusal>,
     positions: [u8; 8],

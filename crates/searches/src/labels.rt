@@ -57,13 +57,14 @@ type Label = Result<Option<Span>, Unknown>;
 fn label(model: Model, mark: Mark, digit: u8) -> Label {
     let slid = Slid::from(digit);
     let by = u32::from(slid.by);
-    match model {
-        Model::Full => Span::placed(mark, choices::ranked(digit)).map(Some),
-        Model::Best if digit == 0 => Ok(None),
-        Model::Best => Span::placed(mark, Position::try_from(digit)?).map(Some),
-        Model::Slide => Span::slid(mark, slid.side, 2 * by).map(Some),
-        Model::Halves => Span::slid(mark, slid.side, by).map(Some),
-    }
+    let span = match model {
+        Model::Full => Span::placed(mark, choices::ranked(digit)),
+        Model::Best if digit == 0 => return Ok(None),
+        Model::Best => Span::placed(mark, Position::try_from(digit)?),
+        Model::Slide => Span::slid(mark, slid.side, 2 * by),
+        Model::Halves => Span::slid(mark, slid.side, by),
+    };
+    span.map(Some)
 }
 
 fn labels(model: Model, drawn: &Drawn, digits: &[u8]) -> [Label; MOST] {

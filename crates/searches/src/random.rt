@@ -6,7 +6,7 @@ use agreed::tally::Tally;
 use std::fmt::Write;
 
 // Whether every mark of a strip has a label.
-#[derive(Clone, Copy, PartialEq, Eq)]
+#[derive(Clone, Copy)]
 pub enum Labelled {
     Every,
     NotEvery,
@@ -29,7 +29,7 @@ impl Strips {
     }
 
     fn count(&mut self, outcome: Outcome) {
-        let is_whole = outcome == Some(Labelled::Every);
+        let is_whole = matches!(outcome, Some(Labelled::Every));
         self.tally.count(outcome.is_some());
         self.whole = self.whole.wrapping_add(u32::from(is_whole));
     }
@@ -41,10 +41,11 @@ impl Strips {
     }
 }
 
-// A group has 500 strips at each gap: 0 to 8 in turn.
+// The gaps are 0 to 8 in turn.
 const GAPS: u8 = 9;
 
-const STRIPS: usize = 4500;
+// How many strips a group has: 500 at each gap.
+const STRIPS: usize = 500 * GAPS as usize;
 
 // A group: the strips from a seed on, each given to what compares a pass with the search.
 pub fn random<F: Fn(&Drawn) -> Outcome + Drop>(name: &str, seed: u64, draw: Draw, compared: F)

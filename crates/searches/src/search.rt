@@ -4,7 +4,7 @@ use crate::labels;
 use crate::strip::{Drawn, MOST};
 
 // The turns of a search were used up.
-#[derive(Clone, Copy, PartialEq, Eq)]
+#[derive(Clone, Copy, PartialEq)]
 pub struct Unfinished;
 
 // What a search gives: the first placing, if there is one.

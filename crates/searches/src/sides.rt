@@ -1,11 +1,10 @@
-// Sides and positions of labels, with document 01's numbers. (Geometry's enums would serve, but the test does not lean on what the
-// passes are made of.)
+// Sides and positions of labels, with document 01's numbers. They are the test's own, since geometry's are part of what is tested.
 
 // A number that stands for no side or position, or a digit that a model does not have.
-#[derive(Clone, Copy, PartialEq, Eq)]
+#[derive(Clone, Copy)]
 pub struct Unknown;
 
-#[derive(Clone, Copy, PartialEq, Eq)]
+#[derive(Clone, Copy, PartialEq)]
 pub enum Side {
     Above = 0,
     Below = 1,

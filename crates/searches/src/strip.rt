@@ -39,7 +39,7 @@ fn length_in_dots(cells: u8, width: u8) -> Option<u8> {
     if length <= 240 { Some(length) } else { None }
 }
 
-// A strip and the gap at which it is to be labelled.
+// A strip and the gap at which it is to be labelled. (An `ArrayVec` of marks has no `map`, by which the lists for the passes are made.)
 #[derive(Clone, Copy)]
 pub struct Drawn {
     all: [Mark; MOST],
