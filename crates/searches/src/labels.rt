@@ -14,7 +14,7 @@ struct Span {
 
 impl Span {
     // The label that lies so many half dots right of its leftmost edge; it may lie as far right as it is long.
-    fn slid(mark: Mark, side: Side, half_dots: u32) -> Result<Span, Unknown> {
+    fn shifted(mark: Mark, side: Side, half_dots: u32) -> Result<Span, Unknown> {
         let width = 2 * u32::from(mark.length);
         if width < half_dots {
             return Err(Unknown);
@@ -31,7 +31,12 @@ impl Span {
         } else {
             2 * u32::from(mark.length)
         };
-        Span::slid(mark, position.side(), half_dots)
+        Span::shifted(mark, position.side(), half_dots)
+    }
+
+    // The label that slides by a number of steps of so many half dots.
+    fn slid(mark: Mark, slid: Slid, step: u8) -> Result<Span, Unknown> {
+        Span::shifted(mark, slid.side, u32::from(step) * u32::from(slid.by))
     }
 
     fn shares_more(self, other: Span) -> bool {
@@ -55,14 +60,12 @@ type Label = Result<Option<Span>, Unknown>;
 
 // How a digit labels a mark.
 fn label(model: Model, mark: Mark, digit: u8) -> Label {
-    let slid = Slid::from(digit);
-    let by = u32::from(slid.by);
     let span = match model {
         Model::Full => Span::placed(mark, choices::ranked(digit)),
         Model::Best if digit == 0 => return Ok(None),
         Model::Best => Span::placed(mark, Position::try_from(digit)?),
-        Model::Slide => Span::slid(mark, slid.side, 2 * by),
-        Model::Halves => Span::slid(mark, slid.side, by),
+        Model::Slide => Span::slid(mark, Slid::from(digit), 2),
+        Model::Halves => Span::slid(mark, Slid::from(digit), 1),
     };
     span.map(Some)
 }
