@@ -43,16 +43,3 @@ impl TryFrom<u8> for Position {
         }
     }
 }
-
-impl Position {
-    pub fn side(self) -> Side {
-        match self {
-            Position::AboveRight | Position::AboveLeft => Side::Above,
-            Position::BelowLeft | Position::BelowRight => Side::Below,
-        }
-    }
-
-    pub fn is_leftward(self) -> bool {
-        matches!(self, Position::AboveLeft | Position::BelowLeft)
-    }
-}
