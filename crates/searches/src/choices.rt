@@ -2,9 +2,7 @@
 //
 // A choice has a digit for each mark, which says how the mark is labelled. Choices are tried in the order of the numbers that their
 // digits write, the first mark's the highest; the first choice has zeros alone.
-
-ghost use Rattle.std.specs.Prelude.{◌≤◌};
-
+use crate::sides::{Position, Side};
 use crate::strip::MOST;
 
 // What a digit says.
@@ -34,13 +32,6 @@ impl Model {
         }
     }
 
-    // How many choices there are for so many marks.
-    pub fn choices(self, marks: usize) -> u32
-        requires { marks ≤ 6 }
-    {
-        (u32::from(self.greatest()) + 1).wrapping_pow(marks as u32)
-    }
-
     // Puts the next choice in the place of one, or the first in that of the last, and says whether there was a next one.
     pub fn advance(self, digits: &mut [u8]) -> bool {
         for digit in digits.iter_mut().rev() {
@@ -54,11 +45,61 @@ impl Model {
     }
 
     // The same with the next choice that has other digits up to that of mark `k`.
-    pub fn skip(self, digits: &mut [u8], k: usize) -> bool {
+    fn skip(self, digits: &mut [u8], k: usize) -> bool {
         if digits.len() <= k {
             return false;
         }
         digits[k + 1..].fill(0);
         self.advance(&mut digits[..k + 1])
+    }
+
+    // The same with the next choice to try after one whose labels overlap from mark `k` on. In the model Full none is left out; sliding
+    // has too many choices, and those are left out that have the same digits up to that of mark `k`.
+    pub fn go_on(self, digits: &mut [u8], k: usize) -> bool {
+        match self {
+            Model::Full => self.advance(digits),
+            _ => self.skip(digits, k),
+        }
+    }
+}
+
+// The position that a digit of the model Full stands for.
+pub fn ranked(digit: u8) -> Position {
+    match digit {
+        0 => Position::AboveLeft,
+        1 => Position::BelowLeft,
+        2 => Position::AboveRight,
+        _ => Position::BelowRight,
+    }
+}
+
+// What a digit of the models Slide and Halves stands for: a side, and by how many dots or half dots the label lies right of its leftmost
+// edge.
+#[derive(Clone, Copy)]
+pub struct Slid {
+    pub side: Side,
+    pub by: u8,
+}
+
+impl From<u8> for Slid {
+    fn from(digit: u8) -> Slid {
+        let side = if digit % 2 == 0 {
+            Side::Above
+        } else {
+            Side::Below
+        };
+        let by = digit / 2;
+        Slid { side, by }
+    }
+}
+
+impl Slid {
+    // The digit, if the model Slide has it.
+    pub fn digit(self) -> Option<u8> {
+        if self.by < 8 {
+            Some(self.side as u8 + 2 * self.by)
+        } else {
+            None
+        }
     }
 }

@@ -2,6 +2,7 @@
 ghost use Rattle.std.specs.Prelude.{◌<◌};
 
 use crate::strip::{Drawn, MOST, Mark};
+use std::array;
 
 // The multiplicative generator with modulus 2^31 − 1.
 #[derive(Clone, Copy)]
@@ -57,17 +58,13 @@ impl Draw {
 
     // The next strip.
     pub fn strip(self, source: &mut Source, gap: u8) -> Drawn {
-        let count = usize::from(source.below(7));
+        let count = usize::from(source.below(MOST as u8 + 1));
         let mut dot = 40;
-        let mut all = [Mark {
-            dot,
-            length: 0,
-            weight: 0,
-        }; MOST];
-        for mark in all.iter_mut() {
-            *mark = self.mark(source, dot);
+        let all = array::from_fn(|_| {
+            let mark = self.mark(source, dot);
             dot = mark.dot;
-        }
+            mark
+        });
         Drawn::new(all, count, gap)
     }
 }

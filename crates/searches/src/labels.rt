@@ -1,38 +1,58 @@
 // The labels of a choice, and whether two of them overlap.
-use crate::choices::Model;
-use crate::strip::{Drawn, MOST, Mark};
+ghost use Rattle.std.specs.Prelude.{◌*◌, ◌≤◌};
 
-#[derive(Clone, Copy, PartialEq, Eq)]
-enum Side {
-    Above,
-    Below,
-}
+use crate::choices;
+use crate::choices::{Model, Slid};
+use crate::sides::{Position, Side, Unknown};
+use crate::strip::{Drawn, MOST, Mark};
 
 // A label as an open span on a side. The ends are counted in half dots from 256 dots left of dot 0.
 #[derive(Clone, Copy)]
 struct Span {
     side: Side,
-    left: u32,
-    right: u32,
-}
-
-// How a digit labels a mark.
-#[derive(Clone, Copy)]
-enum Label {
-    Absent,
-    Lies(Span),
-    // The model does not have the digit.
-    Unknown,
+    left: u16,
+    right: u16,
 }
 
 impl Span {
+    // The label that lies so many half dots right of its leftmost edge.
+    fn shifted(mark: Mark, side: Side, half_dots: u16) -> Span
+        requires { half_dots ≤ 2 * mark.length }
+    {
+        let width = 2 * u16::from(mark.length);
+        let left = 2 * (u16::from(mark.dot) + 256) - width + half_dots;
+        let right = left + width;
+        Span { side, left, right }
+    }
+
+    // The label at a position: leftmost or rightmost, where it lies as far right as it is long.
+    fn placed(mark: Mark, position: Position) -> Span {
+        let width = 2 * u16::from(mark.length);
+        match position {
+            Position::AboveRight => Span::shifted(mark, Side::Above, width),
+            Position::AboveLeft => Span::shifted(mark, Side::Above, 0),
+            Position::BelowLeft => Span::shifted(mark, Side::Below, 0),
+            Position::BelowRight => Span::shifted(mark, Side::Below, width),
+        }
+    }
+
+    // The label that slides by a number of steps of so many half dots, not beyond the rightmost.
+    fn slid(mark: Mark, slid: Slid, step: u8) -> Result<Span, Unknown> {
+        let half_dots = u16::from(step) * u16::from(slid.by);
+        if half_dots <= 2 * u16::from(mark.length) {
+            Ok(Span::shifted(mark, slid.side, half_dots))
+        } else {
+            Err(Unknown)
+        }
+    }
+
     fn shares_more(self, other: Span) -> bool {
         self.left < other.right && other.left < self.right
     }
 
     // Whether the other lies to the right with fewer than so many dots between them.
     fn is_near(self, other: Span, gap: u8) -> bool {
-        self.right <= other.left && other.left - self.right < 2 * u32::from(gap)
+        self.right <= other.left && other.left - self.right < 2 * u16::from(gap)
     }
 
     // Whether both are on one side, and share more than an end point, or fewer than `gap` dots lie between their nearer ends.
@@ -42,86 +62,41 @@ impl Span {
     }
 }
 
-impl Label {
-    // The label that lies so many half dots right of its leftmost edge; it may lie as far right as it is long.
-    fn slid(mark: Mark, side: Side, half_dots: u32) -> Label {
-        let width = 2 * u32::from(mark.length);
-        if width < half_dots {
-            return Label::Unknown;
-        }
-        let left = 2 * (u32::from(mark.dot) + 256) - width + half_dots;
-        Label::Lies(Span {
-            side,
-            left,
-            right: left + width,
-        })
-    }
+// How a mark is labelled, if the model has the digit.
+type Label = Result<Option<Span>, Unknown>;
 
-    // The label at one of the four positions, or none at 0: 2 and 3 have it leftmost, 1 and 4 rightmost.
-    fn at_position(mark: Mark, position: u8) -> Label {
-        let width = 2 * u32::from(mark.length);
-        match position {
-            0 => Label::Absent,
-            1 => Label::slid(mark, Side::Above, width),
-            2 => Label::slid(mark, Side::Above, 0),
-            3 => Label::slid(mark, Side::Below, 0),
-            4 => Label::slid(mark, Side::Below, width),
-            _ => Label::Unknown,
-        }
-    }
-
-    fn new(model: Model, mark: Mark, digit: u8) -> Label {
-        let side = if digit % 2 == 0 {
-            Side::Above
-        } else {
-            Side::Below
-        };
-        let slid = u32::from(digit / 2);
-        match model {
-            Model::Full => Label::at_position(mark, ranked(digit)),
-            Model::Best => Label::at_position(mark, digit),
-            Model::Slide => Label::slid(mark, side, 2 * slid),
-            Model::Halves => Label::slid(mark, side, slid),
-        }
-    }
-
-    // Whether the model does not have the label, or it overlaps one of these.
-    fn clashes(self, earlier: &[Label], gap: u8) -> bool {
-        match self {
-            Label::Absent => false,
-            Label::Lies(span) => earlier.iter().any(|other| other.overlaps(span, gap)),
-            Label::Unknown => true,
-        }
-    }
-
-    fn overlaps(self, span: Span, gap: u8) -> bool {
-        match self {
-            Label::Lies(other) => span.overlaps(other, gap),
-            _ => false,
-        }
-    }
-}
-
-// The position that a digit of the model Full stands for.
-pub fn ranked(digit: u8) -> u8 {
-    match digit {
-        0 => 2,
-        1 => 3,
-        2 => 1,
-        _ => 4,
+// How a digit labels a mark.
+fn label(model: Model, mark: Mark, digit: u8) -> Label {
+    match model {
+        Model::Full => Ok(Some(Span::placed(mark, choices::ranked(digit)))),
+        Model::Best if digit == 0 => Ok(None),
+        Model::Best => Ok(Some(Span::placed(mark, Position::try_from(digit)?))),
+        Model::Slide => Span::slid(mark, Slid::from(digit), 2).map(Some),
+        Model::Halves => Span::slid(mark, Slid::from(digit), 1).map(Some),
     }
 }
 
 fn labels(model: Model, drawn: &Drawn, digits: &[u8]) -> [Label; MOST] {
-    let mut labels = [Label::Absent; MOST];
-    for (label, (mark, digit)) in labels.iter_mut().zip(drawn.marks().iter().zip(digits)) {
-        *label = Label::new(model, *mark, *digit);
+    let mut labels = [Ok(None); MOST];
+    for (own, (mark, digit)) in labels.iter_mut().zip(drawn.marks().iter().zip(digits)) {
+        *own = label(model, *mark, *digit);
     }
     labels
+}
+
+// Whether the model does not have a label, or it overlaps one of these.
+fn clashes(label: &Label, earlier: &[Label], gap: u8) -> bool {
+    match label {
+        Ok(Some(span)) => earlier.iter().any(
+            |other| matches!(other, Ok(Some(other)) if other.overlaps(*span, gap)),
+        ),
+        Ok(None) => false,
+        Err(Unknown) => true,
+    }
 }
 
 // The first of the marks, counted from 0, whose label overlaps that of an earlier mark or is none that the model has.
 pub fn clash(model: Model, drawn: &Drawn, digits: &[u8]) -> Option<usize> {
     let labels = labels(model, drawn, digits);
-    (0..MOST).find(|&k| labels[k].clashes(&labels[..k], drawn.gap))
+    (0..MOST).find(|&k| clashes(&labels[k], &labels[..k], drawn.gap))
 }

@@ -2,6 +2,7 @@
 // and a line for each strip that disagrees.
 #![tactic(auto)]
 
+mod answer;
 mod choices;
 mod draw;
 mod labels;
@@ -12,6 +13,7 @@ mod random_full;
 mod random_largest;
 mod random_slide;
 mod search;
+mod sides;
 mod slid;
 mod strip;
 mod sums;

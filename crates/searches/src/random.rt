@@ -5,23 +5,15 @@ use agreed::output::Output;
 use agreed::tally::Tally;
 use std::fmt::Write;
 
-// What a strip shows of a pass: it disagrees, or agrees, or agrees and has a label for every mark.
-#[derive(Clone, Copy, PartialEq, Eq)]
-pub enum Outcome {
-    Disagrees,
-    Agrees,
-    AgreesWhole,
+// Whether every mark of a strip has a label.
+#[derive(Clone, Copy)]
+pub enum Labelled {
+    Every,
+    NotEvery,
 }
 
-impl Outcome {
-    pub fn new(agrees: bool, is_whole: bool) -> Outcome {
-        match (agrees, is_whole) {
-            (false, _) => Outcome::Disagrees,
-            (true, false) => Outcome::Agrees,
-            (true, true) => Outcome::AgreesWhole,
-        }
-    }
-}
+// What a strip shows of a pass: what both give it if the pass agrees with the search, or nothing.
+pub type Outcome = Option<Labelled>;
 
 // How many strips of a group agree, and in how many every mark has a label.
 #[derive(Clone, Copy)]
@@ -37,8 +29,8 @@ impl Strips {
     }
 
     fn count(&mut self, outcome: Outcome) {
-        let is_whole = outcome == Outcome::AgreesWhole;
-        self.tally.count(outcome != Outcome::Disagrees);
+        let is_whole = matches!(outcome, Some(Labelled::Every));
+        self.tally.count(outcome.is_some());
         self.whole = self.whole.wrapping_add(u32::from(is_whole));
     }
 
@@ -49,25 +41,11 @@ impl Strips {
     }
 }
 
-// The line for a strip on which a pass of this group disagrees: the gap, and place, length and weight of each mark.
-fn print_strip(group: &str, drawn: &Drawn) {
-    let gap = drawn.gap;
-    let _ = write!(Output, "{group} disagrees at gap {gap} on");
-    for mark in drawn.marks() {
-        let _ = write!(Output, " {mark},");
-    }
-    let _ = writeln!(Output);
-}
+// The gaps are 0 to 8 in turn.
+const GAPS: u8 = 9;
 
 // How many strips a group has: 500 at each gap.
-const STRIPS: u32 = 4500;
-
-const GAPS: u32 = 9;
-
-// The gap of a strip: 0 to 8 in turn.
-fn gap_of(strip: u32) -> u8 {
-    (strip % GAPS) as u8
-}
+const STRIPS: usize = 500 * GAPS as usize;
 
 // A group: the strips from a seed on, each given to what compares a pass with the search.
 pub fn random<F: Fn(&Drawn) -> Outcome + Drop>(name: &str, seed: u64, draw: Draw, compared: F)
@@ -75,11 +53,11 @@ pub fn random<F: Fn(&Drawn) -> Outcome + Drop>(name: &str, seed: u64, draw: Draw
 {
     let mut source = Source::new(seed);
     let mut strips = Strips::new();
-    for strip in 0..STRIPS {
-        let drawn = draw.strip(&mut source, gap_of(strip));
+    for gap in (0..GAPS).cycle().take(STRIPS) {
+        let drawn = draw.strip(&mut source, gap);
         let outcome = compared(&drawn);
-        if outcome == Outcome::Disagrees {
-            print_strip(name, &drawn);
+        if outcome.is_none() {
+            let _ = writeln!(Output, "{name} disagrees at {drawn}");
         }
         strips.count(outcome);
     }

@@ -1,7 +1,7 @@
 // The best pass on random strips: the greatest sum over all overlap-free choices, that the listed choice is overlap-free and
 // earns the sum, and the left-out list.
 use crate::choices::Model;
-use crate::random::Outcome;
+use crate::random::{Labelled, Outcome};
 use crate::strip::Drawn;
 use crate::{labels, sums};
 use agreed::{left_out, lists};
@@ -21,35 +21,38 @@ impl Answer {
     fn earns(&self, drawn: &Drawn) -> bool {
         labels::clash(Model::Best, drawn, &self.positions).is_none()
             && sums::sum_of(drawn, &self.positions) == self.choice.sum
-            && sums::greatest_sum(drawn) == self.choice.sum
+            && sums::greatest_sum(drawn) == Ok(self.choice.sum)
     }
 
     // Whether all that the pass gave is right.
     fn agrees(&self, drawn: &Drawn) -> bool {
-        let lists = drawn.lists();
         self.earns(drawn)
-            && left_out::is_left_out_list(
-                &self.positions,
-                lists.strip().weights,
-                &self.left_out,
-                self.choice.count,
-            )
+            && drawn.with_lists(|strip| {
+                left_out::is_left_out_list(
+                    &self.positions,
+                    strip.weights,
+                    &self.left_out,
+                    self.choice.count,
+                )
+            })
+    }
+
+    fn labelled(&self) -> Labelled {
+        match self.choice.count {
+            0 => Labelled::Every,
+            _ => Labelled::NotEvery,
+        }
     }
 }
 
 // The call of the pass.
 fn answered(drawn: &Drawn) -> Result<Answer, Refusal> {
-    let lists = drawn.lists();
     let mut positions = [lists::UNWRITTEN; 8];
     let mut left_out = [lists::UNWRITTEN_NUMBER; 8];
     let mut work = [0u32; best::WORK_NAMED];
-    let choice = best::best(
-        lists.strip(),
-        drawn.gap,
-        &mut positions,
-        &mut left_out,
-        &mut work,
-    )?;
+    let choice = drawn.with_lists(|strip| {
+        best::best(strip, drawn.gap, &mut positions, &mut left_out, &mut work)
+    })?;
     Ok(Answer {
         choice,
         positions,
@@ -59,8 +62,6 @@ fn answered(drawn: &Drawn) -> Result<Answer, Refusal> {
 
 // One strip. The best pass has an answer for each, so a refusal disagrees.
 pub fn compared(drawn: &Drawn) -> Outcome {
-    match answered(drawn) {
-        Ok(answer) => Outcome::new(answer.agrees(drawn), answer.choice.count == 0),
-        Err(_) => Outcome::Disagrees,
-    }
+    let answer = answered(drawn).ok()?;
+    answer.agrees(drawn).then_some(answer.labelled())
 }

@@ -1,5 +1,6 @@
 // The slide pass's answer as the digits of a choice of the model Slide.
-use crate::choices::Digits;
+use crate::choices::{Digits, Slid};
+use crate::sides::Side;
 use crate::strip::{Drawn, MOST, Mark};
 
 // By how many dots a left edge lies right of the leftmost of its mark, if it does.
@@ -10,12 +11,9 @@ fn slid_by(mark: Mark, edge: i16) -> Option<u8> {
 
 // The digit of a side and a left edge, if the model has one.
 fn digit_of(mark: Mark, side: u8, edge: i16) -> Option<u8> {
-    let slid = slid_by(mark, edge)?;
-    if side < 2 && slid < 8 {
-        Some(side + 2 * slid)
-    } else {
-        None
-    }
+    let side = Side::try_from(side).ok()?;
+    let by = slid_by(mark, edge)?;
+    Slid { side, by }.digit()
 }
 
 // The digits of all marks, if the model has each.

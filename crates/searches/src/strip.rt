@@ -1,5 +1,6 @@
 // Pseudo-random strips of up to 6 marks.
 ghost use Rattle.std.specs.Prelude.{◌≤◌, length};
+ghost use Rattle.searches.specs.declared.strip.TheConstants.{MOST};
 
 use geometry::strip::Strip;
 use std::fmt;
@@ -38,35 +39,37 @@ fn length_in_dots(cells: u8, width: u8) -> Option<u8> {
     if length <= 240 { Some(length) } else { None }
 }
 
-// A strip and the gap at which it is to be labelled.
+// A strip and the gap at which it is to be labelled. (An `ArrayVec` of marks has no `map`, by which the lists for the passes are made.)
 #[derive(Clone, Copy)]
 pub struct Drawn {
     all: [Mark; MOST],
     count: usize,
     pub gap: u8,
-    ghost fits: { count ≤ 6 },
+    ghost fits: { count ≤ MOST },
 }
 
-// The same marks as the lists that the passes take.
-#[derive(Clone, Copy)]
-pub struct Lists {
-    places: [i16; MOST],
-    lengths: [u8; MOST],
-    weights: [u16; MOST],
-    count: usize,
-    ghost fits: { count ≤ 6 },
+// The gap, and place, length and weight of each mark.
+impl fmt::Display for Drawn {
+    fn fmt<W: fmt::Write>(&self, f: &mut fmt::Formatter<W>) -> fmt::Result {
+        let gap = self.gap;
+        write!(f, "gap {gap} on")?;
+        for mark in self.marks() {
+            write!(f, " {mark},")?;
+        }
+        Ok(())
+    }
 }
 
 impl Drawn {
     // The strip of the first so many of these marks.
     pub fn new(all: [Mark; MOST], count: usize, gap: u8) -> Drawn
-        requires { count ≤ 6 }
+        requires { count ≤ MOST }
     {
         Drawn { all, count, gap }
     }
 
     pub fn marks(&self) -> &[Mark]
-        ensures { length result.now ≤ 6 }
+        ensures { length result.now ≤ MOST }
     {
         &self.all[..self.count]
     }
@@ -80,22 +83,17 @@ impl Drawn {
         Some(wide)
     }
 
-    pub fn lists(&self) -> Lists {
-        Lists {
-            places: self.all.map(|mark| mark.place()),
-            lengths: self.all.map(|mark| mark.length),
-            weights: self.all.map(|mark| mark.weight),
-            count: self.count,
-        }
-    }
-}
-
-impl Lists {
-    pub fn strip(&self) -> Strip<'_> {
-        Strip {
-            places: &self.places[..self.count],
-            lengths: &self.lengths[..self.count],
-            weights: &self.weights[..self.count],
-        }
+    // What a call gives with the strip as the lists that the passes take.
+    pub fn with_lists<R, F: FnOnce(Strip) -> R>(&self, call: F) -> R
+        requires { F.IsAlwaysCallable call }
+    {
+        let places = self.all.map(Mark::place);
+        let lengths = self.all.map(|mark| mark.length);
+        let weights = self.all.map(|mark| mark.weight);
+        call(Strip {
+            places: &places[..self.count],
+            lengths: &lengths[..self.count],
+            weights: &weights[..self.count],
+        })
     }
 }

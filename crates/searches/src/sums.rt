@@ -1,6 +1,7 @@
 // The weights that the labels of a choice of the model Best earn.
 use crate::choices::Model;
 use crate::labels;
+use crate::search::{TURNS, Unfinished};
 use crate::strip::{Drawn, MOST, Mark};
 
 // The weight of a mark if it has a label.
@@ -32,13 +33,15 @@ fn offered(drawn: &Drawn, digits: &[u8], greatest: u32) -> u32 {
 }
 
 // The greatest sum of a choice that is overlap-free at the strip's gap.
-pub fn greatest_sum(drawn: &Drawn) -> u32 {
+pub fn greatest_sum(drawn: &Drawn) -> Result<u32, Unfinished> {
     let n = drawn.marks().len();
     let mut digits = [0; MOST];
     let mut greatest = 0;
-    for _ in 0..Model::Best.choices(n) {
+    for _ in 0..TURNS {
         greatest = offered(drawn, &digits, greatest);
-        Model::Best.advance(&mut digits[..n]);
+        if !Model::Best.advance(&mut digits[..n]) {
+            return Ok(greatest);
+        }
     }
-    greatest
+    Err(Unfinished)
 }
