@@ -1,6 +1,5 @@
 -- That a number is one of the table's has one proof at most: a left edge is neither of the two numbers outside the coordinates, and these
--- differ. So what a row carries,
--- that some proof is there that each of its numbers is one, gives that proof.
+-- differ. So what a row carries, that some proof is there that each of its numbers is one, gives that proof.
 use mathlib.Core.Path.{ap}
 use Prim.Native.Nat.{ℕ}
 use native.Mathlib.Bridge.{le_prop}
