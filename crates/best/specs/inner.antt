@@ -5,5 +5,6 @@ pub mod Checked
 pub mod Handed
 pub mod Table
 pub mod Trial
+pub mod Tried
 pub mod Row
 pub mod Insertion

@@ -7,6 +7,7 @@ mod marks;
 mod name;
 mod row;
 mod table;
+mod trial;
 mod walk;
 
 ghost use Rattle.std.specs.Prelude.{◌≡◌, ◌≤◌, length};

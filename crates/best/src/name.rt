@@ -3,7 +3,7 @@
 ghost use Rattle.std.specs.Prelude.{◌≡◌, ◌<◌};
 ghost use Rattle.geometry.specs.Position.{above, below};
 ghost use Rattle.geometry.specs.Strip.{most_short};
-ghost use Rattle.geometry.specs.inner.Positions.{position_of, side_of, direction_at};
+ghost use Rattle.geometry.specs.inner.Positions.{position_of, direction_at};
 ghost use Rattle.best.specs.inner.Names.{name_of, last_after};
 
 use geometry::limits::MOST_SHORT;
@@ -30,22 +30,23 @@ fn name_of(k: usize, p: Position) -> usize
     }
 }
 
-// The last label of a side once mark k is at p, which may lie on that side or not.
-fn last_after(side: Side, k: usize, p: Position, last: usize) -> usize
-    requires { k < most_short }
-    ensures { result ≡ last_after (side_of side) k (position_of p) last }
-{
-    if p.lies_on(side) { name_of(k, p) } else { last }
-}
-
-// The last labels of both sides once mark k is at p.
+// The last labels once mark k is at p: its label is the last one of the side on which it lies.
 pub fn after(last: LastLabels, k: usize, p: Position) -> LastLabels
     requires { k < most_short }
     ensures above_is { result.above ≡ last_after above k (position_of p) last.above }
     ensures below_is { result.below ≡ last_after below k (position_of p) last.below }
 {
+    let name = name_of(k, p);
     Sides {
-        above: last_after(Side::Above, k, p, last.above),
-        below: last_after(Side::Below, k, p, last.below),
+        above: if p.lies_on(Side::Above) {
+            name
+        } else {
+            last.above
+        },
+        below: if p.lies_on(Side::Below) {
+            name
+        } else {
+            last.below
+        },
     }
 }

@@ -1,28 +1,19 @@
 // The table: for each pair of last labels, one above and one below, the most that the marks after them can still earn.
 ghost use Rattle.std.specs.Prelude.{◌≡◌, suc, ◌*◌, ◌<◌, ◌≤◌, length, set, drop};
-ghost use Rattle.geometry.specs.inner.Positions.{position_of};
 ghost use Rattle.best.specs.Best.{work_named};
 ghost use Rattle.best.specs.inner.Handed.{strip_of};
 ghost use Rattle.best.specs.inner.Names.{names, names_before};
 ghost use Rattle.best.specs.inner.Table.{cell_of, Filled, Renewing, Renewed};
-ghost use Rattle.best.specs.inner.Trial.{TrialAsked, gain_at};
+ghost use Rattle.best.specs.inner.Trial.{TrialAsked};
 ghost use Rattle.best.specs.inner.Row.{RowOf, CellAsked, cell_by};
 
 use crate::WORK_NAMED;
 use crate::marks::Marks;
-use crate::name::{LastLabels, NAMES, after};
+use crate::name::NAMES;
 use crate::row::Row;
+use crate::trial::Trial;
 use geometry::position::{Position, Sides};
 use geometry::work::clear;
-
-// What mark k, counted from 0, at p and the marks after it earn, by the table.
-pub fn gain(marks: Marks, work: &[u32], k: usize, p: Position, last: LastLabels) -> u32
-    requires { TrialAsked (strip_of marks) work.now k last.above last.below }
-    ensures { result ≡ gain_at (strip_of marks.entry) work.now k last.above last.below (position_of p) }
-{
-    let last = after(last, k, p);
-    marks.earned(k, p) as u32 + work[last.above * NAMES + last.below]
-}
 
 // What the cells of the row of `above` share for mark k. A label below becomes the last one there, whatever the last one was: 0 stands
 // for it.
@@ -30,14 +21,19 @@ fn row_of(marks: Marks, reaches: &[u16; NAMES], work: &[u32], k: usize, above: u
     requires { TrialAsked (strip_of marks) work.now k above 0 }
     ensures { RowOf (strip_of marks.entry) reaches.now work.now k above result }
 {
-    let last = Sides { above, below: 0 };
+    let trial = Trial {
+        marks,
+        work,
+        k,
+        last: Sides { above, below: 0 },
+    };
     Row {
         reach: reaches[above],
         left: marks.begin_of(k, Position::BelowLeft),
         place: marks.begin_of(k, Position::BelowRight),
         weight: marks.weights[k] as u32,
-        leftward: gain(marks, work, k, Position::BelowLeft, last),
-        rightward: gain(marks, work, k, Position::BelowRight, last),
+        leftward: trial.gain(Position::BelowLeft),
+        rightward: trial.gain(Position::BelowRight),
     }
 }
 

@@ -1,4 +1,5 @@
-// The table of kept part layouts in the work area: four numbers a mark, filled from the last mark to the first.
+// The table of kept part layouts in the work area: four numbers a mark, filled from the last mark to the first. They are found by index, as
+// in the other passes' tables: of the rows that `as_chunks_mut` gives nothing is said of what the area ends as.
 ghost use Rattle.std.specs.Prelude.{◌≡◌, ◌+◌, ◌*◌, ◌≤◌, ◌<◌, length};
 ghost use Rattle.std.proofs.lemmas.List.Edits.{sets};
 ghost use Rattle.geometry.specs.Strip.{most_marks};
