@@ -23,6 +23,11 @@ and-ends : (good : Bool) → (good && true) ≡ good
 and-ends true = refl
 and-ends false = refl
 
+-- the elements before i pass together exactly if `good` says so; one element more
+pub every-next : {A : Type 0} (p : A → Bool) (xs : List A) (d : A) (i : ℕ) (good : Bool) → list_all p xs ≡ (good && list_all p (drop i xs))
+    → i < length xs → list_all p xs ≡ ((good && p (get_or xs i d)) && list_all p (drop (i + 1) xs))
+every-next p xs d i good so_far h = so_far ∙ rw (add-one, drop-cons xs i d h) (and-moves good (p (get_or xs i d)) (list_all p (drop (suc i) xs)))
+
 -- what is left begins with two neighbours
 module _ (zs : List ℤ) (d : ℤ) (i : ℕ) (good : Bool) (so_far : rising zs ≡ (good && rising (drop i zs))) where
   next-two : i + 1 < length zs → drop i zs ≡ get_or zs i d ∷ get_or zs (i + 1) d ∷ drop (suc (i + 1)) zs
