@@ -1,5 +1,4 @@
 -- `full::kept::both_sides` meets its contract: a number that went through 16 bits is itself, and twice two counts are the count of four.
-use mathlib.Core.Path.{refl}
 use native.Mathlib.Omega.{arith}
 use Rattle.geometry.proofs.Dots.{back}
 use Rattle.full.specs.inner.Row.{count_of}
@@ -18,6 +17,3 @@ invariant_of-result c =
       held = rw (left, right) (∣ (left-held, (left-held, (right-held, (right-held, tt)))) ∣₁);
       counted = rw (left, right, left-counted, right-counted) (omega arith);
     }
-
-pub returns : goal.returns
-returns c = rw (back c.ranges.left, back c.ranges.right) refl

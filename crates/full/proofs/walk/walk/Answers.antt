@@ -1,15 +1,11 @@
 -- `full::walk::walk` meets its contract: the numbers written so far and the walk from the current mark on are the whole walk.
-use mathlib.Core.Path.{refl}
 use Prim.Native.Nat.{ℕ, ◌+◌, ◌*◌}
 use native.Mathlib.Omega.{arith}
 use lib.IntN.{ℤ, pos}
 use lib.ListN.{get_or}
 use Rattle.geometry.proofs.Dots.{fetched}
-use Rattle.full.proofs.Walking.{walking_start, step-ready, walking-more, walking-done}
+use Rattle.full.proofs.Walking.{step-ready, walking-more, walking-done}
 use Rattle.full.proofs.walk.walk.Goals as goal
-
-pub loop-i-init : goal.loop-i-init
-loop-i-init c = walking_start _ _ _ c.args.marks.checked _ _ c.requires _ _ refl refl
 
 pub step-taken-requires : goal.step-taken-requires
 step-taken-requires c =

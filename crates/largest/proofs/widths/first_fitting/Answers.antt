@@ -2,14 +2,8 @@
 -- the first that fits is the greatest, and where 1 dot does not fit none does.
 use mathlib.Core.Path.{refl}
 use native.Mathlib.Omega.{arith}
-use Rattle.largest.proofs.Contract.{trying-starts, ready-to-try, trying-on, none-fits, one-fits}
+use Rattle.largest.proofs.Contract.{trying-on, none-fits, one-fits}
 use Rattle.largest.proofs.widths.first_fitting.Goals as goal
-
-pub loop-width-init : goal.loop-width-init
-loop-width-init c = trying-starts _ _ _
-
-pub fits_at-requires : goal.fits_at-requires
-fits_at-requires c = ready-to-try _ _ _ c.requires _ _ c.loop-width.invariant _ c.most_cells-most.ensures
 
 pub loop-width-preserved : goal.loop-width-preserved
 loop-width-preserved c =

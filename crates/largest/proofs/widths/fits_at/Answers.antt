@@ -3,7 +3,7 @@ use mathlib.Core.Path.{refl, sym, ◌∙◌}
 use Rattle.geometry.specs.Strip.{lists_of}
 use Rattle.full.specs.Full.{full_lent}
 use Rattle.geometry.proofs.Verdicts.{ok-is-zero}
-use Rattle.largest.proofs.Scaling.{lengths-used, lengths-within}
+use Rattle.largest.proofs.Scaling.{lengths-used}
 use Rattle.largest.proofs.FullAtWidth.{ready-to-scale, tried, passed_over}
 use Rattle.largest.proofs.widths.fits_at.Goals as goal
 
@@ -20,9 +20,6 @@ scale-requires c =
     let lent = full_lent c.args.positions.now c.args.work.now in
     let says = c.within.ensures _ _ c.requires.most-is refl in
     ready-to-scale s _ _ lent c.requires.checked c.requires.least (sym says ∙ c.if-not-within.false) refl refl
-
-pub slice_bounds-lengths-end : goal.slice_bounds-lengths-end
-slice_bounds-lengths-end c = lengths-within c.args.strip.lengths.now c.scale.ensures
 
 pub returns : goal.returns
 returns c =
