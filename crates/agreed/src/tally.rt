@@ -3,8 +3,8 @@
 use crate::output::Output;
 use std::fmt::{Display, Write};
 
-// The number of an answer: 0, or that of the refusal. (Geometry's `number` is of a `Refusal`; the tables of what is wanted have document 01's
-// numbers.)
+// The number of an answer: 0, or that of the refusal. A call's own refusal becomes one; the tables of what is wanted have document 01's
+// numbers.
 fn number<T: Copy, E: Into<u8>>(answer: Result<T, E>) -> u8 {
     match answer {
         Ok(_) => 0,

@@ -61,12 +61,8 @@ fn bounds(tally: &mut Tally) {
         (638, &[], 9, Err(12)),
     ];
     for (case, places, gap, wanted) in cases {
-        passes::passes_give(
-            tally.at(case),
-            passes::even(places),
-            gap,
-            Wanted::all(wanted),
-        );
+        let strip = passes::even(places);
+        passes::passes_give(tally.at(case), strip, gap, Wanted::all(wanted));
     }
 }
 

@@ -123,12 +123,8 @@ fn written(tally: &mut Tally) {
     let mut job = [0; 26];
     tally.at(381).same_answer(write(strip, &mut job), Ok(26));
     tally.holds(job == STRIP11);
-    tally
-        .at(382)
-        .same_answer(write(strip, &mut [0; 25]), Err(9));
-    tally
-        .at(383)
-        .same_answer(write(strip, &mut [0; 27]), Ok(26));
+    let cases = [(382, 25, Err(9)), (383, 27, Ok(26))];
+    tally.all_give(&cases, |room| write(strip, first(&mut [0; 27], room)));
 }
 
 pub fn jobs(tally: &mut Tally) {

@@ -10,6 +10,7 @@ const PLACES: [i16; 3] = [0, 1, 2];
 // A gap and the lengths of the lent lists, with what a pass must give.
 type Lent<Lengths> = (u32, u8, Lengths, Result<(), u8>);
 
+// One comparison for each row: what the best pass chooses is not said.
 fn gives<Lengths: Copy, T: Copy, F: Fn(u8, Lengths) -> Result<T, Refusal>>(
     tally: &mut Tally,
     cases: &[Lent<Lengths>],

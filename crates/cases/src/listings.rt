@@ -104,12 +104,10 @@ fn many(tally: &mut Tally) {
 // An output of the text's length will do, and one byte less is refused with 9.
 fn lent(tally: &mut Tally) {
     let refused = b"\x00\x00\x00\x01";
-    tally
-        .at(431)
-        .same_number(listing::listing(refused, &mut [0; 10]), Ok(()));
-    tally
-        .at(432)
-        .same_answer(listing::listing(refused, &mut [0; 9]), Err(9));
+    let enough = listing::listing(refused, &mut [0; 10]);
+    tally.at(431).same_number(enough, Ok(()));
+    let too_short = listing::listing(refused, &mut [0; 9]);
+    tally.at(432).same_answer(too_short, Err(9));
 }
 
 pub fn listings(tally: &mut Tally) {

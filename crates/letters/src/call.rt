@@ -11,7 +11,7 @@ const BEHIND: usize = 8;
 const WHOLE: usize = full::WORK_NAMED + BEHIND;
 
 // The named part is cleared at 0 and at 11, and nothing is changed at every other refusal.
-fn is_left_so<T>(work: &[i16; WHOLE], wanted: &Result<T, u8>) -> bool {
+fn is_left_so(work: &[i16; WHOLE], wanted: Wanted) -> bool {
     let named = match wanted {
         Ok(_) | Err(11) => 0,
         Err(_) => USED,
@@ -54,7 +54,7 @@ pub fn gives_with(tally: &mut Tally, strip: Strip, gap: u8, lent: Lent, wanted: 
     tally.same_answer(got, wanted.map(|(width, _)| width));
     let written = wanted.map_or(&[] as &[u8], |(_, positions)| positions);
     tally.holds(is_written(&positions, written));
-    tally.holds(is_left_so(&work, &wanted));
+    tally.holds(is_left_so(&work, wanted));
 }
 
 // The same with all of both.
