@@ -70,11 +70,11 @@ impl Tally {
     }
 
     // The rows of a table, each a case with an input of the call and the answer that it must give.
-    pub fn all_give<I: Copy, T, E, F>(&mut self, rows: &[(u32, I, Result<T, u8>)], call: F)
+    pub fn all_give<I: Copy, T, E, F>(&mut self, rows: &[(u32, I, Result<T, u8>)], mut call: F)
     where
         T: Copy + PartialEq + Display + Default,
         E: Copy + Into<u8>,
-        F: Fn(I) -> Result<T, E>,
+        F: FnMut(I) -> Result<T, E>,
         requires { F.IsAlwaysCallable call }
     {
         for &(case, input, wanted) in rows {

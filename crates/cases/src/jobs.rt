@@ -102,13 +102,16 @@ const WHOLE: [Job; 2] = [
 
 // Lists for the five marks of strip 11, and one of them one short; too little room comes before what is wrong with a record.
 fn short_lists(tally: &mut Tally) {
-    let cases = [
+    for (case, room, wanted) in [
         (371, [5, 5, 5], Ok(5)),
         (372, [4, 5, 5], Err(9)),
         (373, [5, 4, 5], Err(9)),
         (374, [5, 5, 4], Err(9)),
-    ];
-    tally.all_give(&cases, |room| read_into(&STRIP11, room));
+    ] {
+        tally
+            .at(case)
+            .same_answer(read_into(&STRIP11, room), wanted);
+    }
     let bad_record = read_into(b"\x00\x01\x00\x00\x08", [0, 1, 1]);
     tally.at(375).same_answer(bad_record, Err(9));
 }
@@ -123,8 +126,10 @@ fn written(tally: &mut Tally) {
     let mut job = [0; 26];
     tally.at(381).same_answer(write(strip, &mut job), Ok(26));
     tally.holds(job == STRIP11);
-    let cases = [(382, 25, Err(9)), (383, 27, Ok(26))];
-    tally.all_give(&cases, |room| write(strip, first(&mut [0; 27], room)));
+    for (case, room, wanted) in [(382, 25, Err(9)), (383, 27, Ok(26))] {
+        let got = write(strip, first(&mut [0; 27], room));
+        tally.at(case).same_answer(got, wanted);
+    }
 }
 
 pub fn jobs(tally: &mut Tally) {

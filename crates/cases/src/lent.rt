@@ -11,10 +11,10 @@ const PLACES: [i16; 3] = [0, 1, 2];
 type Lent<Lengths> = (u32, u8, Lengths, Result<(), u8>);
 
 // One comparison for each row: what the best pass chooses is not said.
-fn gives<Lengths: Copy, T: Copy, F: Fn(u8, Lengths) -> Result<T, Refusal>>(
+fn gives<Lengths: Copy, T: Copy, F: FnMut(u8, Lengths) -> Result<T, Refusal>>(
     tally: &mut Tally,
     cases: &[Lent<Lengths>],
-    pass: F,
+    mut pass: F,
 )
     requires { F.IsAlwaysCallable pass }
 {
