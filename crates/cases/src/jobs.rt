@@ -108,9 +108,8 @@ fn short_lists(tally: &mut Tally) {
         (373, [5, 4, 5], Err(9)),
         (374, [5, 5, 4], Err(9)),
     ] {
-        tally
-            .at(case)
-            .same_answer(read_into(&STRIP11, room), wanted);
+        let got = read_into(&STRIP11, room);
+        tally.at(case).same_answer(got, wanted);
     }
     let bad_record = read_into(b"\x00\x01\x00\x00\x08", [0, 1, 1]);
     tally.at(375).same_answer(bad_record, Err(9));
