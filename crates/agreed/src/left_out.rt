@@ -1,49 +1,35 @@
 // The left-out list of the best pass against its positions: the heaviest mark first, and of equals the one with the lowest number.
-use crate::lists;
+use crate::lists::{UNWRITTEN, UNWRITTEN_NUMBER, are_all};
+use std::cmp::Reverse;
 
-// What the pass was given and what it wrote; marks are counted from 0 here.
+// What the pass was given and what it wrote, for each mark.
 #[derive(Clone, Copy)]
-struct Answer<'a> {
-    positions: &'a [u8],
+struct Marks<'a> {
     weights: &'a [u16],
-    left_out: &'a [u16],
+    positions: &'a [u8],
 }
 
-impl Answer<'_> {
-    // Whether mark `j` is left out and belongs before mark `i`.
-    fn belongs_before(self, j: usize, i: usize) -> bool {
-        let own = lists::at(self.weights, i);
-        let other = lists::at(self.weights, j);
-        lists::at(self.positions, j) == 0 && (own < other || own == other && j < i)
+impl Marks<'_> {
+    // What orders the left-out marks, for the mark with this number, from 1 on; none if there is no such mark, or it is not left out.
+    fn rank(self, number: u16) -> Option<(Reverse<u16>, u16)> {
+        let i = usize::from(number).checked_sub(1)?;
+        let weight = *self.weights.get(i)?;
+        let position = *self.positions.get(i)?;
+        (position == 0).then_some((Reverse(weight), number))
     }
 
-    // The index of mark `i` in the list: how many left-out marks belong before it.
-    fn index_of(self, i: usize) -> usize {
-        (0..self.positions.len())
-            .filter(|&j| self.belongs_before(j, i))
-            .count()
-    }
-
-    // Whether mark `i` stands at its index if it is at 0; behind the last mark the positions are as they were.
-    fn mark_agrees(self, i: usize) -> bool {
-        let position = lists::at(self.positions, i);
-        if self.weights.len() <= i {
-            return position == lists::UNWRITTEN;
-        }
-        position != 0 || usize::from(lists::at(self.left_out, self.index_of(i))) == i + 1
-    }
-
-    // Whether element `i` of the list is as it was if it lies behind the used part.
-    fn entry_agrees(self, count: usize, i: usize) -> bool {
-        i < count || lists::at(self.left_out, i) == lists::UNWRITTEN_NUMBER
-    }
-
-    fn has_count(self, count: usize) -> bool {
+    fn left_out(self) -> usize {
         self.positions
             .iter()
             .filter(|&&position| position == 0)
             .count()
-            == count
+    }
+
+    // Whether these are the numbers of all left-out marks, in their order. Where each stands before the next none stands there twice.
+    fn are_left_out(self, numbers: &[u16]) -> bool {
+        numbers.len() == self.left_out()
+            && numbers.iter().all(|&number| self.rank(number).is_some())
+            && numbers.is_sorted_by(|&number, &next| self.rank(number) < self.rank(next))
     }
 }
 
@@ -54,11 +40,13 @@ pub fn is_left_out_list(
     left_out: &[u16; 8],
     count: usize,
 ) -> bool {
-    let answer = Answer {
-        positions,
-        weights,
-        left_out,
+    let Some((positions, behind)) = positions.split_at_checked(weights.len()) else {
+        return false;
     };
-    answer.has_count(count)
-        && (0..positions.len()).all(|i| answer.mark_agrees(i) && answer.entry_agrees(count, i))
+    let Some((numbers, rest)) = left_out.split_at_checked(count) else {
+        return false;
+    };
+    Marks { weights, positions }.are_left_out(numbers)
+        && are_all(behind, UNWRITTEN)
+        && are_all(rest, UNWRITTEN_NUMBER)
 }

@@ -1,4 +1,6 @@
 // Lists of which a part is lent, or written.
+use crate::output::Output;
+use std::fmt::Write;
 
 // What stands in an answer list before a call, which is no answer for any strip here: where a pass must not write, it stands there
 // afterwards. Three constants, since they stand in array literals, where one constant of a trait for three types is no plainer.
@@ -8,21 +10,23 @@ pub const UNWRITTEN_NUMBER: u16 = 777;
 
 pub const UNWRITTEN_EDGE: i16 = 7777;
 
-// The element at an index, 0 behind the last.
-pub fn at<T: Copy + Default>(list: &[T], i: usize) -> T {
-    list.get(i).copied().unwrap_or_default()
+// The first so many elements, to be lent. Where there are fewer, a line says so, which no group is to print, and all are lent.
+pub fn first<T>(list: &mut [T], count: usize) -> &mut [T] {
+    let most = list.len();
+    if most < count {
+        let _ = writeln!(Output, "{count} of {most} elements cannot be lent");
+        return list;
+    }
+    &mut list[..count]
 }
 
-// The first so many elements, all if there are no more.
-pub fn first<T>(list: &mut [T], count: usize) -> &mut [T] {
-    let lent = count.min(list.len());
-    &mut list[..lent]
+// Whether all elements are this value.
+pub fn are_all<T: Copy + PartialEq>(list: &[T], value: T) -> bool {
+    list.iter().all(|&element| element == value)
 }
 
 // Whether a list begins with these bytes, and is as it was behind them.
 pub fn is_written(list: &[u8], wanted: &[u8]) -> bool {
-    match list.strip_prefix(wanted) {
-        Some(rest) => rest.iter().all(|&byte| byte == UNWRITTEN),
-        None => false,
-    }
+    list.strip_prefix(wanted)
+        .is_some_and(|rest| are_all(rest, UNWRITTEN))
 }

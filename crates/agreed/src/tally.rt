@@ -3,23 +3,31 @@
 use crate::output::Output;
 use std::fmt::{Display, Write};
 
-// The number of an answer: 0, or that of the refusal. (Geometry's `number` is of a `Refusal`; the tables of what is wanted have document 01's
-// numbers.)
-fn number<T>(answer: &Result<T, u8>) -> u8 {
+// The number of an answer: 0, or that of the refusal. A call's own refusal becomes one; the tables of what is wanted have document 01's
+// numbers.
+fn number<T: Copy, E: Into<u8>>(answer: Result<T, E>) -> u8 {
     match answer {
         Ok(_) => 0,
-        Err(refusal) => *refusal,
+        Err(refusal) => refusal.into(),
     }
 }
 
+// `case` is the number of the case at hand, which the line of a comparison that disagrees names.
 #[derive(Clone, Copy)]
 pub struct Tally {
     agreed: u32,
+    case: u32,
 }
 
 impl Tally {
     pub fn new() -> Tally {
-        Tally { agreed: 0 }
+        Tally { agreed: 0, case: 0 }
+    }
+
+    // The same tally, at the case with this number.
+    pub fn at(&mut self, case: u32) -> &mut Tally {
+        self.case = case;
+        self
     }
 
     // Counts a comparison if it agrees.
@@ -27,34 +35,51 @@ impl Tally {
         self.agreed = self.agreed.wrapping_add(u32::from(agrees));
     }
 
-    // A case with a value for its answer.
-    pub fn same<T: Copy + PartialEq + Display>(&mut self, case: u32, got: T, wanted: T) {
+    // One comparison: of a value.
+    pub fn same<T: Copy + PartialEq + Display>(&mut self, got: T, wanted: T) {
         let agrees = got == wanted;
         if !agrees {
+            let case = self.case;
             let _ = writeln!(Output, "case {case} gives {got} and not {wanted}");
         }
         self.count(agrees);
     }
 
-    // A case that must hold.
-    pub fn holds(&mut self, case: u32, is_so: bool) {
-        self.same(case, u8::from(is_so), 1);
+    // One comparison: what must hold.
+    pub fn holds(&mut self, is_so: bool) {
+        self.same(u8::from(is_so), 1);
     }
 
     // One comparison: of the numbers, which are 0 where a call is not refused.
-    pub fn same_number<T, U>(&mut self, case: u32, got: &Result<T, u8>, wanted: &Result<U, u8>) {
-        self.same(case, number(got), number(wanted));
+    pub fn same_number<T: Copy, U: Copy, E: Into<u8>>(
+        &mut self,
+        got: Result<T, E>,
+        wanted: Result<U, u8>,
+    ) {
+        self.same(number(got), number(wanted));
     }
 
     // Two comparisons: of the numbers, and of the values, which are 0 at a refusal.
-    pub fn same_answer<T: Copy + PartialEq + Display + Default>(
+    pub fn same_answer<T: Copy + PartialEq + Display + Default, E: Copy + Into<u8>>(
         &mut self,
-        case: u32,
-        got: Result<T, u8>,
+        got: Result<T, E>,
         wanted: Result<T, u8>,
     ) {
-        self.same_number(case, &got, &wanted);
-        self.same(case, got.unwrap_or_default(), wanted.unwrap_or_default());
+        self.same_number(got, wanted);
+        self.same(got.unwrap_or_default(), wanted.unwrap_or_default());
+    }
+
+    // The rows of a table, each a case with an input of the call and the answer that it must give.
+    pub fn all_give<I: Copy, T, E, F>(&mut self, rows: &[(u32, I, Result<T, u8>)], mut call: F)
+    where
+        T: Copy + PartialEq + Display + Default,
+        E: Copy + Into<u8>,
+        F: FnMut(I) -> Result<T, E>,
+        requires { F.IsAlwaysCallable call }
+    {
+        for &(case, input, wanted) in rows {
+            self.at(case).same_answer(call(input), wanted);
+        }
     }
 
     // The line of the group that has this name.

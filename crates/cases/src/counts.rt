@@ -4,7 +4,6 @@ ghost use Rattle.geometry.specs.Strip.{most_marks};
 
 use crate::passes;
 use crate::passes::{TOO_MANY, Wanted};
-use agreed::lists::first;
 use agreed::tally::Tally;
 use geometry::strip::Strip;
 
@@ -32,11 +31,11 @@ fn spaced() -> [Mark; TOO_MANY] {
 }
 
 // The first so many of these marks, but for the last one.
-fn first_give(tally: &mut Tally, case: u32, count: usize, last: Mark, wanted: Wanted)
+fn first_give(tally: &mut Tally, count: usize, last: Mark, wanted: Wanted)
     requires { count ≤ most_marks + 1 }
 {
     let mut marks = spaced();
-    if let Some(end) = first(&mut marks, count).last_mut() {
+    if let Some(end) = marks[..count].last_mut() {
         *end = last;
     }
     let strip = Strip {
@@ -44,7 +43,7 @@ fn first_give(tally: &mut Tally, case: u32, count: usize, last: Mark, wanted: Wa
         lengths: &marks.map(|mark| mark.length)[..count],
         weights: &marks.map(|mark| mark.weight)[..count],
     };
-    passes::calls_give(tally, case, strip, wanted);
+    passes::calls_give(tally, strip, wanted);
 }
 
 // A bad place, length and weight, and a place that is that of the first mark.
@@ -67,13 +66,13 @@ const BAD: [Mark; 4] = [
     },
 ];
 
-// The last mark good, then each bad one in its place.
+// The last mark good, then each bad one in its place; the cases have numbers from this one on.
 fn last_gives(tally: &mut Tally, case: u32, count: usize, good: Wanted, bad: Result<(), u8>)
     requires { count ≤ most_marks + 1 }
 {
-    first_give(tally, case, count, GOOD, good);
+    first_give(tally.at(case), count, GOOD, good);
     for (case, last) in (case..).skip(1).zip(BAD) {
-        first_give(tally, case, count, last, passes::all(bad));
+        first_give(tally.at(case), count, last, Wanted::all(bad));
     }
 }
 
@@ -84,7 +83,7 @@ fn unequal(tally: &mut Tally) {
         lengths: &[10; TOO_MANY - 1],
         weights: &[1; TOO_MANY],
     };
-    passes::calls_give(tally, 241, strip, passes::all(Err(6)));
+    passes::calls_give(tally.at(241), strip, Wanted::all(Err(6)));
 }
 
 // Over 4,000 marks 7, then a bad mark 8, then over 60 marks 7.
@@ -93,9 +92,9 @@ pub fn counts(tally: &mut Tally) {
         small: Err(7),
         large: Ok(()),
     };
-    last_gives(tally, 201, 60, passes::all(Ok(())), Err(8));
+    last_gives(tally, 201, 60, Wanted::all(Ok(())), Err(8));
     last_gives(tally, 211, 61, long, Err(8));
     last_gives(tally, 221, 4000, long, Err(8));
-    last_gives(tally, 231, 4001, passes::all(Err(7)), Err(7));
+    last_gives(tally, 231, 4001, Wanted::all(Err(7)), Err(7));
     unequal(tally);
 }

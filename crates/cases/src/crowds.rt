@@ -1,23 +1,17 @@
 // Strips on which several marks are left out, and the best pass must list them heaviest first.
 use crate::passes;
+use agreed::left_out;
+use agreed::lists::UNWRITTEN_NUMBER;
 use agreed::tally::Tally;
-use agreed::{left_out, lists};
 use best::choice::Choice;
 use geometry::strip::Strip;
 
 // The best pass must give this sum and leave out these three marks, in this order, and write no fourth.
-fn leaves_out(tally: &mut Tally, case: u32, strip: Strip, sum: u32, [a, b, c]: [u16; 3]) {
-    let mut list = [lists::UNWRITTEN_NUMBER; 12];
-    let got = passes::best(
-        strip,
-        0,
-        &mut [lists::UNWRITTEN; 12],
-        &mut list,
-        &mut [0; best::WORK_NAMED],
-    );
-    tally.same_number(case, &got, &Ok(()));
-    passes::same_choice(tally, case, got, Choice { sum, count: 3 });
-    tally.holds(case, list.starts_with(&[a, b, c, lists::UNWRITTEN_NUMBER]));
+fn leaves_out(tally: &mut Tally, strip: Strip, sum: u32, [a, b, c]: [u16; 3]) {
+    let got = passes::best::<12>(strip, 0);
+    tally.same_number(got.choice, Ok(()));
+    passes::same_choice(tally, got.choice, Choice { sum, count: 3 });
+    tally.holds(got.left_out.starts_with(&[a, b, c, UNWRITTEN_NUMBER]));
 }
 
 // Seven marks side by side: the four of weight 9 find room, and of the others two weigh 5 and one weighs 1.
@@ -27,7 +21,7 @@ fn side_by_side(tally: &mut Tally) {
         lengths: &[10; 7],
         weights: &[9, 5, 1, 9, 5, 9, 9],
     };
-    leaves_out(tally, 501, strip, 36, [2, 5, 3]);
+    leaves_out(tally.at(501), strip, 36, [2, 5, 3]);
 }
 
 // Between four marks and four marks of weight 1,000 three whose labels are so long that each would cost two of these: two of the
@@ -40,29 +34,21 @@ fn long_labels(tally: &mut Tally) {
             1000, 1000, 1000, 1000, 1000, 1, 1000, 1000, 1000, 1000, 1000,
         ],
     };
-    leaves_out(tally, 502, strip, 8000, [5, 7, 6]);
+    leaves_out(tally.at(502), strip, 8000, [5, 7, 6]);
 }
 
 // Eight marks side by side, of which no more than four find room. The best pass must give this sum, and list the other four by the
 // positions that it gives.
-fn crowd(tally: &mut Tally, case: u32, weights: [u16; 8], sum: u32) {
+fn crowd(tally: &mut Tally, weights: [u16; 8], sum: u32) {
     let strip = Strip {
         places: &[0, 1, 2, 3, 4, 5, 6, 7],
         lengths: &[10; 8],
         weights: &weights,
     };
-    let mut positions = [lists::UNWRITTEN; 8];
-    let mut list = [lists::UNWRITTEN_NUMBER; 8];
-    let got = passes::best(
-        strip,
-        0,
-        &mut positions,
-        &mut list,
-        &mut [0; best::WORK_NAMED],
-    );
-    passes::same_choice(tally, case, got, Choice { sum, count: 4 });
-    let is_list = left_out::is_left_out_list(&positions, &weights, &list, 4);
-    tally.holds(case, is_list);
+    let got = passes::best::<8>(strip, 0);
+    passes::same_choice(tally, got.choice, Choice { sum, count: 4 });
+    let is_list = left_out::is_left_out_list(&got.positions, &weights, &got.left_out, 4);
+    tally.holds(is_list);
 }
 
 pub fn crowds(tally: &mut Tally) {
@@ -74,6 +60,6 @@ pub fn crowds(tally: &mut Tally) {
         (505, [1, 1000, 1000, 1, 1000, 1000, 1000, 1], 4000),
         (506, [1, 2, 3, 4, 5, 6, 7, 8], 26),
     ] {
-        crowd(tally, case, weights, sum);
+        crowd(tally.at(case), weights, sum);
     }
 }

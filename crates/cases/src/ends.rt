@@ -30,7 +30,7 @@ fn four_marks(tally: &mut Tally, cases: &[FourMarks]) {
             lengths: &[240; 4],
             weights: &[1; 4],
         };
-        passes::full_gives(tally, case, strip, gap, wanted);
+        passes::full_gives(tally.at(case), strip, gap, wanted);
     }
 }
 

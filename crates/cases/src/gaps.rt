@@ -1,6 +1,6 @@
 // The gap: document 01's strips 7, 8, 9 and 11 with a clear dot between neighbours, strips at the widest gap, and gaps that are too wide
 // beside each other refusal of the checks on entry.
-use crate::passes::TOO_MANY;
+use crate::passes::{TOO_MANY, Wanted};
 use crate::worked::Worked;
 use crate::{passes, worked};
 use agreed::tally::Tally;
@@ -44,7 +44,7 @@ fn widest(tally: &mut Tally) {
         (623, &[0, 1, 7, 8], Err(11)),
     ];
     for (case, places, wanted) in cases {
-        passes::full_gives(tally, case, passes::even(places), 8, wanted);
+        passes::full_gives(tally.at(case), passes::even(places), 8, wanted);
     }
 }
 
@@ -61,7 +61,8 @@ fn bounds(tally: &mut Tally) {
         (638, &[], 9, Err(12)),
     ];
     for (case, places, gap, wanted) in cases {
-        passes::passes_give(tally, case, passes::even(places), gap, passes::all(wanted));
+        let strip = passes::even(places);
+        passes::passes_give(tally.at(case), strip, gap, Wanted::all(wanted));
     }
 }
 
@@ -73,7 +74,7 @@ fn unequal_lists(tally: &mut Tally) {
         weights: &[1; 2],
     };
     for (case, gap) in [(641, 8), (642, 9), (643, 255)] {
-        passes::passes_give(tally, case, strip, gap, passes::all(Err(6)));
+        passes::passes_give(tally.at(case), strip, gap, Wanted::all(Err(6)));
     }
 }
 
@@ -85,13 +86,13 @@ fn too_many_marks(tally: &mut Tally) {
         weights: &[1; TOO_MANY],
     };
     for (case, gap, number) in [(651, 8, 7), (652, 9, 12), (653, 255, 12)] {
-        passes::passes_give(tally, case, strip, gap, passes::all(Err(number)));
+        passes::passes_give(tally.at(case), strip, gap, Wanted::all(Err(number)));
     }
 }
 
 pub fn gaps(tally: &mut Tally) {
     worked::all_give(tally, &STRIPS);
-    worked::leaves_out(tally, 611, 1, 10, [9, 2, 9, 9, 9], 36, 2);
+    worked::leaves_out(tally.at(611), 1, 10, [9, 2, 9, 9, 9], 36, 2);
     widest(tally);
     bounds(tally);
     unequal_lists(tally);

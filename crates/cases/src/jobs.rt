@@ -1,35 +1,31 @@
 // Job bytes: strip 14, strip 11's job with each of its truncations, and each boundary of the reader and the writer.
-use crate::passes;
 use agreed::lists::first;
 use agreed::tally::Tally;
+use geometry::refusal::Refusal;
 use geometry::strip::Strip;
+use job::writer::write;
 
 // Strip 11.
 pub const STRIP11: [u8; 26] =
     *b"\x00\x05\x00\x00\x06\x0a\x00\x09\x06\x0a\x00\x02\x06\x0a\x00\x09\x06\x0a\x00\x09\x07\x00\x07\x0a\x00\x09";
 
 // How many marks a job has, read into lists of which so many places, lengths and weights are lent.
-fn read(job: &[u8], [places, lengths, weights]: [usize; 3]) -> Result<usize, u8> {
+fn read_into(job: &[u8], [places, lengths, weights]: [usize; 3]) -> Result<usize, Refusal> {
     job::reader::read(
         job,
         first(&mut [0; 8], places),
         first(&mut [0; 8], lengths),
         first(&mut [0; 8], weights),
     )
-    .map_err(u8::from)
 }
 
-// Lists for 8 marks.
-const ROOM: [usize; 3] = [8; 3];
+// The same with lists for 8 marks.
+fn read(job: &[u8]) -> Result<usize, Refusal> {
+    read_into(job, [8; 3])
+}
 
 // A job with its count of marks.
 type Job<'a> = (u32, &'a [u8], Result<usize, u8>);
-
-fn read_gives(tally: &mut Tally, cases: &[Job]) {
-    for &(case, job, wanted) in cases {
-        tally.same_answer(case, read(job, ROOM), wanted);
-    }
-}
 
 const STRIP14: [Job; 5] = [
     (301, b"\x00\x00\x00\x00", Ok(0)),
@@ -90,7 +86,7 @@ const WEIGHTS: [Job; 5] = [
 // The first bytes of strip 11's job, as many as there may be and not all.
 fn truncations(tally: &mut Tally) {
     for k in 0..STRIP11.len() {
-        tally.same_answer(361, read(&STRIP11[..k], ROOM), Err(1));
+        tally.at(361).same_answer(read(&STRIP11[..k]), Err(1));
     }
 }
 
@@ -112,10 +108,11 @@ fn short_lists(tally: &mut Tally) {
         (373, [5, 4, 5], Err(9)),
         (374, [5, 5, 4], Err(9)),
     ] {
-        tally.same_answer(case, read(&STRIP11, room), wanted);
+        let got = read_into(&STRIP11, room);
+        tally.at(case).same_answer(got, wanted);
     }
-    let bad_record = read(b"\x00\x01\x00\x00\x08", [0, 1, 1]);
-    tally.same_answer(375, bad_record, Err(9));
+    let bad_record = read_into(b"\x00\x01\x00\x00\x08", [0, 1, 1]);
+    tally.at(375).same_answer(bad_record, Err(9));
 }
 
 // Strip 11's job is written into a list that is as long as it, a byte too short, and a byte longer.
@@ -126,21 +123,23 @@ fn written(tally: &mut Tally) {
         weights: &[9, 2, 9, 9, 9],
     };
     let mut job = [0; 26];
-    tally.same_answer(381, passes::write(strip, &mut job), Ok(26));
-    tally.holds(381, job == STRIP11);
-    tally.same_answer(382, passes::write(strip, &mut [0; 25]), Err(9));
-    tally.same_answer(383, passes::write(strip, &mut [0; 27]), Ok(26));
+    tally.at(381).same_answer(write(strip, &mut job), Ok(26));
+    tally.holds(job == STRIP11);
+    for (case, room, wanted) in [(382, 25, Err(9)), (383, 27, Ok(26))] {
+        let got = write(strip, first(&mut [0; 27], room));
+        tally.at(case).same_answer(got, wanted);
+    }
 }
 
 pub fn jobs(tally: &mut Tally) {
-    read_gives(tally, &STRIP14);
-    read_gives(tally, &HEADERS);
-    read_gives(tally, &BIT_MAPS);
-    read_gives(tally, &STEPS);
-    read_gives(tally, &LENGTHS);
-    read_gives(tally, &WEIGHTS);
+    tally.all_give(&STRIP14, read);
+    tally.all_give(&HEADERS, read);
+    tally.all_give(&BIT_MAPS, read);
+    tally.all_give(&STEPS, read);
+    tally.all_give(&LENGTHS, read);
+    tally.all_give(&WEIGHTS, read);
     truncations(tally);
-    read_gives(tally, &WHOLE);
+    tally.all_give(&WHOLE, read);
     short_lists(tally);
     written(tally);
 }

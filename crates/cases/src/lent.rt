@@ -2,13 +2,16 @@
 use crate::passes;
 use agreed::lists::first;
 use agreed::tally::Tally;
+use best::choice::Choice;
+use geometry::refusal::Refusal;
 
 const PLACES: [i16; 3] = [0, 1, 2];
 
 // A gap and the lengths of the lent lists, with what a pass must give.
 type Lent<Lengths> = (u32, u8, Lengths, Result<(), u8>);
 
-fn gives<Lengths: Copy, F: FnMut(u8, Lengths) -> Result<(), u8>>(
+// One comparison for each row: what the best pass chooses is not said.
+fn gives<Lengths: Copy, T: Copy, F: FnMut(u8, Lengths) -> Result<T, Refusal>>(
     tally: &mut Tally,
     cases: &[Lent<Lengths>],
     mut pass: F,
@@ -16,7 +19,7 @@ fn gives<Lengths: Copy, F: FnMut(u8, Lengths) -> Result<(), u8>>(
     requires { F.IsAlwaysCallable pass }
 {
     for &(case, gap, lengths, wanted) in cases {
-        tally.same_number(case, &pass(gap, lengths), &wanted);
+        tally.at(case).same_number(pass(gap, lengths), wanted);
     }
 }
 
@@ -29,8 +32,8 @@ const FULL: [Lent<[usize; 2]>; 5] = [
     (205, 9, [2, 19999], Err(12)),
 ];
 
-fn full(gap: u8, [positions, work]: [usize; 2]) -> Result<(), u8> {
-    passes::full(
+fn full(gap: u8, [positions, work]: [usize; 2]) -> Result<(), Refusal> {
+    full::full(
         passes::even(&PLACES),
         gap,
         first(&mut [0; 3], positions),
@@ -48,8 +51,8 @@ const SLIDE: [Lent<[usize; 3]>; 6] = [
     (216, 9, [3, 2, 29999], Err(12)),
 ];
 
-fn slide(gap: u8, [sides, edges, work]: [usize; 3]) -> Result<(), u8> {
-    passes::slide(
+fn slide(gap: u8, [sides, edges, work]: [usize; 3]) -> Result<(), Refusal> {
+    slide::slide(
         passes::even(&PLACES),
         gap,
         first(&mut [0; 3], sides),
@@ -68,15 +71,14 @@ const BEST: [Lent<[usize; 3]>; 6] = [
     (226, 9, [2, 3, 14999], Err(12)),
 ];
 
-fn best(gap: u8, [positions, left_out, work]: [usize; 3]) -> Result<(), u8> {
-    passes::best(
+fn best(gap: u8, [positions, left_out, work]: [usize; 3]) -> Result<Choice, Refusal> {
+    best::best(
         passes::even(&PLACES),
         gap,
         first(&mut [0; 3], positions),
         first(&mut [0; 3], left_out),
         first(&mut [0; best::WORK_NAMED], work),
-    )?;
-    Ok(())
+    )
 }
 
 pub fn lent(tally: &mut Tally) {

@@ -5,17 +5,12 @@ use crate::jobs;
 use agreed::tally::Tally;
 use listing::TEXT_MOST;
 
-// How many bytes the listing of a job has.
-fn list(job: &[u8], output: &mut [u8]) -> Result<usize, u8> {
-    listing::listing(job, output).map_err(u8::from)
-}
-
 // The listing of a job must be these bytes.
-fn gives(tally: &mut Tally, case: u32, job: &[u8], wanted: &[u8]) {
+fn gives(tally: &mut Tally, job: &[u8], wanted: &[u8]) {
     let mut text = [0; TEXT_MOST];
-    let got = list(job, &mut text);
-    tally.same_answer(case, got, Ok(wanted.len()));
-    tally.holds(case, text.starts_with(wanted));
+    let got = listing::listing(job, &mut text);
+    tally.same_answer(got, Ok(wanted.len()));
+    tally.holds(text.starts_with(wanted));
 }
 
 // A job with its listing.
@@ -23,7 +18,7 @@ type Listed<'a> = (u32, &'a [u8], &'a [u8]);
 
 fn all_give(tally: &mut Tally, cases: &[Listed]) {
     for &(case, job, wanted) in cases {
-        gives(tally, case, job, wanted);
+        gives(tally.at(case), job, wanted);
     }
 }
 
@@ -79,18 +74,17 @@ fn spaced(marks: u8) -> [u8; 185] {
 }
 
 // The listing of that job: a header of 4 bytes, a record of one, and one of three for each further mark.
-fn spaced_gives(tally: &mut Tally, case: u32, marks: u8, wanted: &[u8])
+fn spaced_gives(tally: &mut Tally, marks: u8, wanted: &[u8])
     requires { marks ≤ 61 }
 {
     let bytes = 2 + 3 * usize::from(marks);
-    gives(tally, case, &spaced(marks)[..bytes], wanted);
+    gives(tally, &spaced(marks)[..bytes], wanted);
 }
 
 // 60 marks are the most that slide and best take.
 fn many(tally: &mut Tally) {
     spaced_gives(
-        tally,
-        421,
+        tally.at(421),
         60,
         b"marks 60\n\
           full 2 2 2 2 2 2 2 2 2 2 2 2 2 2 2 2 2 2 2 2 2 2 2 2 2 2 2 2 2 2 \
@@ -98,8 +92,7 @@ fn many(tally: &mut Tally) {
           slide fits\nbest 60 of 60\nout none\n",
     );
     spaced_gives(
-        tally,
-        422,
+        tally.at(422),
         61,
         b"marks 61\n\
           full 2 2 2 2 2 2 2 2 2 2 2 2 2 2 2 2 2 2 2 2 2 2 2 2 2 2 2 2 2 2 \
@@ -111,8 +104,10 @@ fn many(tally: &mut Tally) {
 // An output of the text's length will do, and one byte less is refused with 9.
 fn lent(tally: &mut Tally) {
     let refused = b"\x00\x00\x00\x01";
-    tally.same_number(431, &list(refused, &mut [0; 10]), &Ok(()));
-    tally.same_answer(432, list(refused, &mut [0; 9]), Err(9));
+    let enough = listing::listing(refused, &mut [0; 10]);
+    tally.at(431).same_number(enough, Ok(()));
+    let too_short = listing::listing(refused, &mut [0; 9]);
+    tally.at(432).same_answer(too_short, Err(9));
 }
 
 pub fn listings(tally: &mut Tally) {

@@ -1,5 +1,6 @@
 // The ranges of a mark at each boundary, strip 13, and the lists of a strip, for the three passes and the writer.
 use crate::passes;
+use crate::passes::Wanted;
 use agreed::tally::Tally;
 use geometry::strip::Strip;
 
@@ -38,7 +39,7 @@ fn one_mark(tally: &mut Tally, cases: &[OneMark]) {
             lengths: &[length],
             weights: &[weight],
         };
-        passes::calls_give(tally, case, strip, passes::all(wanted));
+        passes::calls_give(tally.at(case), strip, Wanted::all(wanted));
     }
 }
 
@@ -59,7 +60,7 @@ fn lists(tally: &mut Tally) {
             lengths,
             weights,
         };
-        passes::calls_give(tally, case, strip, passes::all(wanted));
+        passes::calls_give(tally.at(case), strip, Wanted::all(wanted));
     }
 }
 

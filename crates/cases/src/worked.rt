@@ -1,11 +1,11 @@
 // Document 01's strips 1 to 11, run at gap 0: lengths are 10, and weights 1 unless said.
 use crate::passes;
-use agreed::lists;
 use agreed::tally::Tally;
 use best::choice::Choice;
 use geometry::strip::Strip;
 
 // Places and a gap, with the positions of full, what slide gives, and the sum of best with its count of left-out marks, as far as each is said.
+// A tuple, since a struct's literal stands on as many lines as it has fields.
 pub type Worked<'a> = (
     u32,
     u8,
@@ -18,16 +18,17 @@ pub type Worked<'a> = (
 pub fn all_give(tally: &mut Tally, cases: &[Worked]) {
     for &(case, gap, places, full, slide, best) in cases {
         let strip = passes::even(places);
+        tally.at(case);
         if let Some(wanted) = full {
-            passes::full_gives(tally, case, strip, gap, wanted);
+            passes::full_gives(tally, strip, gap, wanted);
         }
         if let Some(wanted) = slide {
-            tally.same_number(case, &passes::any_slide(strip, gap), &wanted);
+            tally.same_number(passes::any_slide(strip, gap), wanted);
         }
         if let Some((sum, count)) = best {
             let got = passes::any_best(strip, gap);
-            tally.same_number(case, &got, &Ok(()));
-            passes::same_choice(tally, case, got, Choice { sum, count });
+            tally.same_number(got, Ok(()));
+            passes::same_choice(tally, got, Choice { sum, count });
         }
     }
 }
@@ -68,34 +69,19 @@ const STRIPS: [Worked; 9] = [
 ];
 
 // Of marks at 0, 1, 2, 3 and a last one with these weights, the best pass must leave out this one alone, and give this sum.
-pub fn leaves_out(
-    tally: &mut Tally,
-    case: u32,
-    gap: u8,
-    last: i16,
-    weights: [u16; 5],
-    sum: u32,
-    mark: u16,
-) {
+pub fn leaves_out(tally: &mut Tally, gap: u8, last: i16, weights: [u16; 5], sum: u32, mark: u16) {
     let strip = Strip {
         places: &[0, 1, 2, 3, last],
         lengths: &[10; 5],
         weights: &weights,
     };
-    let mut left_out = [lists::UNWRITTEN_NUMBER; 8];
-    let got = passes::best(
-        strip,
-        gap,
-        &mut [lists::UNWRITTEN; 8],
-        &mut left_out,
-        &mut [0; best::WORK_NAMED],
-    );
-    passes::same_choice(tally, case, got, Choice { sum, count: 1 });
-    tally.same(case, left_out[0], mark);
+    let got = passes::best::<8>(strip, gap);
+    passes::same_choice(tally, got.choice, Choice { sum, count: 1 });
+    tally.same(got.left_out[0], mark);
 }
 
 pub fn worked(tally: &mut Tally) {
     all_give(tally, &STRIPS);
-    leaves_out(tally, 6, 0, 4, [1, 9, 9, 9, 9], 36, 1);
-    leaves_out(tally, 11, 0, 10, [9, 2, 9, 9, 9], 36, 2);
+    leaves_out(tally.at(6), 0, 4, [1, 9, 9, 9, 9], 36, 1);
+    leaves_out(tally.at(11), 0, 10, [9, 2, 9, 9, 9], 36, 2);
 }

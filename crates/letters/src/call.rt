@@ -1,5 +1,5 @@
 // One call with what it must give: number, width, position list and work area.
-use agreed::lists::{UNWRITTEN, first, is_written};
+use agreed::lists::{UNWRITTEN, are_all, first, is_written};
 use agreed::tally::Tally;
 use geometry::strip::Strip;
 
@@ -10,19 +10,14 @@ const BEHIND: usize = 8;
 
 const WHOLE: usize = full::WORK_NAMED + BEHIND;
 
-// The greatest width of a letter cell. The lengths of a strip are in cells here.
-fn largest(strip: Strip, gap: u8, positions: &mut [u8], work: &mut [i16]) -> Result<u8, u8> {
-    largest::largest(strip, gap, positions, work).map_err(u8::from)
-}
-
 // The named part is cleared at 0 and at 11, and nothing is changed at every other refusal.
-fn is_left_so<T>(work: &[i16; WHOLE], wanted: &Result<T, u8>) -> bool {
+fn is_left_so(work: &[i16; WHOLE], wanted: Wanted) -> bool {
     let named = match wanted {
         Ok(_) | Err(11) => 0,
         Err(_) => USED,
     };
     let (front, behind) = work.split_at(full::WORK_NAMED);
-    front.iter().all(|&x| x == named) && behind.iter().all(|&x| x == USED)
+    are_all(front, named) && are_all(behind, USED)
 }
 
 pub const NO_MARKS: Strip = Strip {
@@ -46,23 +41,23 @@ pub const ALL: Lent = Lent {
     work: WHOLE,
 };
 
-// The call with these parts of both.
-pub fn gives_with(tally: &mut Tally, case: u32, strip: Strip, gap: u8, lent: Lent, wanted: Wanted) {
+// The call with these parts of both. The lengths of a strip are in cells here.
+pub fn gives_with(tally: &mut Tally, strip: Strip, gap: u8, lent: Lent, wanted: Wanted) {
     let mut positions = [UNWRITTEN; 8];
     let mut work = [USED; WHOLE];
-    let got = largest(
+    let got = largest::largest(
         strip,
         gap,
         first(&mut positions, lent.positions),
         first(&mut work, lent.work),
     );
-    tally.same_answer(case, got, wanted.map(|(width, _)| width));
+    tally.same_answer(got, wanted.map(|(width, _)| width));
     let written = wanted.map_or(&[] as &[u8], |(_, positions)| positions);
-    tally.holds(case, is_written(&positions, written));
-    tally.holds(case, is_left_so(&work, &wanted));
+    tally.holds(is_written(&positions, written));
+    tally.holds(is_left_so(&work, wanted));
 }
 
 // The same with all of both.
-pub fn gives(tally: &mut Tally, case: u32, strip: Strip, gap: u8, wanted: Wanted) {
-    gives_with(tally, case, strip, gap, ALL, wanted);
+pub fn gives(tally: &mut Tally, strip: Strip, gap: u8, wanted: Wanted) {
+    gives_with(tally, strip, gap, ALL, wanted);
 }

@@ -21,7 +21,7 @@ fn unequal_lists(tally: &mut Tally) {
             lengths,
             weights,
         };
-        call::gives(tally, case, strip, gap, Err(6));
+        call::gives(tally.at(case), strip, gap, Err(6));
     }
 }
 
@@ -35,7 +35,7 @@ fn two_marks(tally: &mut Tally, cases: &[TwoMarks]) {
             lengths: &[1, cells],
             weights: &[1, weight],
         };
-        call::gives(tally, case, strip, gap, wanted);
+        call::gives(tally.at(case), strip, gap, wanted);
     }
 }
 
@@ -49,7 +49,7 @@ const WIDE_GAPS: [TwoMarks; 4] = [
 
 fn wide_gaps(tally: &mut Tally) {
     two_marks(tally, &WIDE_GAPS);
-    call::gives(tally, 959, NO_MARKS, 9, Err(12));
+    call::gives(tally.at(959), NO_MARKS, 9, Err(12));
 }
 
 const TOO_MANY: usize = 4001;
@@ -61,8 +61,8 @@ fn too_many_marks(tally: &mut Tally) {
         lengths: &[0; TOO_MANY],
         weights: &[1; TOO_MANY],
     };
-    call::gives(tally, 961, strip, 8, Err(7));
-    call::gives(tally, 962, strip, 9, Err(12));
+    call::gives(tally.at(961), strip, 8, Err(7));
+    call::gives(tally.at(962), strip, 9, Err(12));
 }
 
 // Cells have the range of lengths, 1 to 240; places and weights have theirs, and places rise.
@@ -99,7 +99,7 @@ fn short_lists(tally: &mut Tally) {
             weights: &[1; 2],
         };
         let lent = Lent { positions, work };
-        call::gives_with(tally, case, strip, 0, lent, wanted);
+        call::gives_with(tally.at(case), strip, 0, lent, wanted);
     }
 }
 
@@ -114,8 +114,8 @@ fn last_of_all(tally: &mut Tally) {
         positions: 5,
         work: NAMED - 1,
     };
-    call::gives_with(tally, 991, strip, 0, short, Err(10));
-    call::gives(tally, 992, strip, 0, Err(11));
+    call::gives_with(tally.at(991), strip, 0, short, Err(10));
+    call::gives(tally.at(992), strip, 0, Err(11));
 }
 
 pub fn refusals(tally: &mut Tally) {

@@ -7,7 +7,7 @@ use geometry::strip::Strip;
 // "An empty strip has width 30."
 fn no_marks(tally: &mut Tally) {
     for (case, gap) in [(901, 0), (902, 8)] {
-        call::gives(tally, case, NO_MARKS, gap, Ok((30, &[])));
+        call::gives(tally.at(case), NO_MARKS, gap, Ok((30, &[])));
     }
 }
 
@@ -29,7 +29,7 @@ fn one_mark(tally: &mut Tally) {
             lengths: &[cells],
             weights: &[1],
         };
-        call::gives(tally, case, strip, 8, Ok((width, &[2])));
+        call::gives(tally.at(case), strip, 8, Ok((width, &[2])));
     }
 }
 
@@ -41,7 +41,7 @@ fn two_marks(tally: &mut Tally) {
             lengths: &cells,
             weights: &[1; 2],
         };
-        call::gives(tally, case, strip, 0, Ok((width, &[2, 2])));
+        call::gives(tally.at(case), strip, 0, Ok((width, &[2, 2])));
     }
 }
 
@@ -55,7 +55,7 @@ fn five_marks(tally: &mut Tally, cases: &[FiveMarks]) {
             lengths: &[cells; 5],
             weights: &[1; 5],
         };
-        call::gives(tally, case, strip, gap, wanted);
+        call::gives(tally.at(case), strip, gap, wanted);
     }
 }
 

@@ -1,11 +1,6 @@
 // The longest beginning of a text.
 use agreed::tally::Tally;
 
-// How many bytes the longest beginning has.
-fn beginning(text: &[u8]) -> Result<usize, u8> {
-    font::beginning(text).map_err(u8::from)
-}
-
 // None, all, exactly 240 dots and a byte behind it, 233 dots and a byte that has no room, and 13 behind the beginning.
 pub fn beginnings(tally: &mut Tally) {
     let cases: [(u32, &[u8], Result<usize, u8>); 8] = [
@@ -18,7 +13,5 @@ pub fn beginnings(tally: &mut Tally) {
         (837, b"  mmmmmmmmmmmmmmmmmmmmmmmmmm", Ok(27)),
         (838, b"mmmmmmmmmmmmmmmmmmmmmmmmmmmmmm\x1f", Err(13)),
     ];
-    for (case, text, wanted) in cases {
-        tally.same_answer(case, beginning(text), wanted);
-    }
+    tally.all_give(&cases, font::beginning);
 }

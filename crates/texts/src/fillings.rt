@@ -2,11 +2,6 @@
 use agreed::lists::{UNWRITTEN, first, is_written};
 use agreed::tally::Tally;
 
-// Writes the lengths of texts, or is refused.
-fn write_lengths(texts: &[u8], counts: &[u16], lengths: &mut [u8]) -> Result<(), u8> {
-    font::lengths(texts, counts, lengths).map_err(u8::from)
-}
-
 // Texts and their counts with what must be written in a list of 8, of which so many elements are lent.
 type Filling<'a> = (u32, &'a [u8], &'a [u16], usize, Result<&'a [u8], u8>);
 
@@ -44,9 +39,9 @@ const REFUSED: [Filling; 12] = [
 fn fills(tally: &mut Tally, cases: &[Filling]) {
     for &(case, texts, counts, room, wanted) in cases {
         let mut list = [UNWRITTEN; 8];
-        let got = write_lengths(texts, counts, first(&mut list, room));
-        tally.same_number(case, &got, &wanted);
-        tally.holds(case, is_written(&list, wanted.unwrap_or(&[])));
+        let got = font::lengths(texts, counts, first(&mut list, room));
+        tally.at(case).same_number(got, wanted);
+        tally.holds(is_written(&list, wanted.unwrap_or(&[])));
     }
 }
 
@@ -59,8 +54,8 @@ fn many(tally: &mut Tally) {
         (874, &[127; 4001], &[1; 4001], Err(7)),
     ];
     for (case, texts, counts, wanted) in cases {
-        let got = write_lengths(texts, counts, &mut [0; 4001]);
-        tally.same_number(case, &got, &wanted);
+        let got = font::lengths(texts, counts, &mut [0; 4001]);
+        tally.at(case).same_number(got, wanted);
     }
 }
 

@@ -2,19 +2,8 @@
 // a 6, m 9.
 use agreed::tally::Tally;
 
-// How many dots long a text is.
-fn measure(text: &[u8]) -> Result<u8, u8> {
-    font::measure(text).map_err(u8::from)
-}
-
 // A text with what it must measure.
 type Measured<'a> = (u32, &'a [u8], Result<u8, u8>);
-
-fn measures(tally: &mut Tally, cases: &[Measured]) {
-    for &(case, text, wanted) in cases {
-        tally.same_answer(case, measure(text), wanted);
-    }
-}
 
 // The letters of the rule, and what lies beside the font.
 const LETTERS: [Measured; 9] = [
@@ -42,28 +31,28 @@ const BOUNDS: [Measured; 9] = [
     (829, &[127; 300], Err(13)),
 ];
 
-// How many of all bytes are so many dots wide; 0 counts those that are refused.
-fn as_wide(width: u8) -> usize {
+// How many of all bytes are so many dots wide, or are refused where no width is given.
+fn as_wide(width: Option<u8>) -> usize {
     (0..=255)
-        .filter(|&byte| measure(&[byte]).unwrap_or(0) == width)
+        .filter(|&byte| font::measure(&[byte]).ok() == width)
         .count()
 }
 
 // Nine letters of 3 dots, one of 4, 81 of 6 and four of 9 are the 95 of the font; 161 bytes are outside it.
 fn whole_font(tally: &mut Tally) {
     for (case, width, count) in [
-        (811, 3, 9),
-        (812, 4, 1),
-        (813, 6, 81),
-        (814, 9, 4),
-        (815, 0, 161),
+        (811, Some(3), 9),
+        (812, Some(4), 1),
+        (813, Some(6), 81),
+        (814, Some(9), 4),
+        (815, None, 161),
     ] {
-        tally.same(case, as_wide(width), count);
+        tally.at(case).same(as_wide(width), count);
     }
 }
 
 pub fn widths(tally: &mut Tally) {
-    measures(tally, &LETTERS);
+    tally.all_give(&LETTERS, font::measure);
     whole_font(tally);
-    measures(tally, &BOUNDS);
+    tally.all_give(&BOUNDS, font::measure);
 }
