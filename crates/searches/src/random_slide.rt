@@ -16,18 +16,13 @@ struct Written {
     edges: [i16; 8],
 }
 
-// Whether every element of a list is this value.
-fn are_all<T: Copy + PartialEq>(list: &[T], value: T) -> bool {
-    list.iter().all(|element| *element == value)
-}
-
 impl Written {
     // Whether both lists are as they were behind so many marks.
     fn is_kept_behind(&self, marks: usize) -> bool
         requires { marks ≤ 8 }
     {
-        are_all(&self.sides[marks..], lists::UNWRITTEN)
-            && are_all(&self.edges[marks..], lists::UNWRITTEN_EDGE)
+        lists::are_all(&self.sides[marks..], lists::UNWRITTEN)
+            && lists::are_all(&self.edges[marks..], lists::UNWRITTEN_EDGE)
     }
 
     // Whether the lists are a placing with every label as far left as it goes, and nothing is written behind the last mark.
