@@ -31,7 +31,7 @@ fn put_short(short: Short, text: &mut Text)
     lines::put_slide(text, short.slides());
     let mut left_out = [0u16; MOST_SHORT];
     let found = short.choose(&mut left_out);
-    lines::put_sums(text, found.sum, passes::total_weight(short.strip.weights));
+    lines::put_sums(text, found.sum as u16, short.total_weight());
     lines::put_out(text, &left_out[..found.count]);
 }
 
@@ -67,7 +67,7 @@ fn put_listing(job: &[u8], text: &mut Text)
         lengths: &lengths[..count],
         weights: &weights[..count],
     };
-    lines::put_count(text, count as u32);
+    lines::put_count(text, count as u16);
     put_strip(strip, text);
 }
 

@@ -11,7 +11,7 @@ use geometry::refusal::Refusal;
 
 // A word, a number and the line's end.
 #[tactic(auto, using(crate::proofs::Lengths::lengths))]
-fn put_numbered(text: &mut Text, word: &[u8], number: u32)
+fn put_numbered(text: &mut Text, word: &[u8], number: u16)
     requires { array_vec_len text.old + (length word.now + 6) ≤ text_most }
     ensures { text.new.items ≡ text.old.items ++ (word.now ++ decimal number ++ line_end) }
 {
@@ -21,7 +21,7 @@ fn put_numbered(text: &mut Text, word: &[u8], number: u32)
 }
 
 // "marks" and the count.
-pub fn put_count(text: &mut Text, count: u32)
+pub fn put_count(text: &mut Text, count: u16)
     requires { array_vec_len text.old + 12 ≤ text_most }
     ensures { text.new.items ≡ text.old.items ++ marks_line count }
 {
@@ -33,7 +33,7 @@ pub fn put_refused(text: &mut Text, refusal: Refusal)
     requires { array_vec_len text.old + 14 ≤ text_most }
     ensures { text.new.items ≡ text.old.items ++ refused_line refusal }
 {
-    put_numbered(text, b"refused ", u32::from(u8::from(refusal)));
+    put_numbered(text, b"refused ", u16::from(u8::from(refusal)));
 }
 
 // "full" and the positions, each after a space, or "none".
@@ -64,7 +64,7 @@ pub fn put_slide(text: &mut Text, fits: bool)
 
 // "best", the greatest sum, "of" and the weight of all marks.
 #[tactic(auto, using(crate::proofs::Lengths::lengths))]
-pub fn put_sums(text: &mut Text, sum: u32, all: u32)
+pub fn put_sums(text: &mut Text, sum: u16, all: u16)
     requires { array_vec_len text.old + 20 ≤ text_most }
     ensures { text.new.items ≡ text.old.items ++ best_line sum all }
 {

@@ -56,13 +56,12 @@ impl Short<'_> {
         let mut work = [0u32; best::WORK_NAMED];
         best::best(self.strip, GAP, &mut positions, left_out, &mut work).unwrap()
     }
-}
 
-// The sum of the weights of at most 60 marks.
-#[tactic(auto, using(crate::proofs::Sums::sum_is))]
-pub fn total_weight(weights: &[u16]) -> u32
-    requires { length weights.now ≤ most_short }
-    ensures { result ≡ sum_list weights.now }
-{
-    weights.iter().map(|&weight| u32::from(weight)).sum()
+    // The weight of all marks: 60,000 at most, so 16 bits hold it.
+    #[tactic(auto, using(crate::proofs::Sums::sum_is))]
+    pub fn total_weight(self) -> u16
+        ensures { result ≡ sum_list (lists_of self.entry.strip).weights }
+    {
+        self.strip.weights.iter().sum()
+    }
 }

@@ -1,18 +1,18 @@
 -- `listing::put_short` meets its contract: the three lines one behind the other, by what the slide and the best pass say.
-use native.Mathlib.Omega.{arith}
 use mathlib.Core.List.{◌++◌}
 use lib.ListN.{take}
-use Rattle.geometry.specs.Strip.{lists_of, most_short}
-use Rattle.geometry.proofs.Accepted.{entry-accepted}
+use Rattle.geometry.specs.Strip.{lists_of}
+use Rattle.std.proofs.Common.{rules}
+use Rattle.listing.proofs.Sums.{earned-most}
 use Rattle.listing.specs.Text.{slide_line, best_line, out_line}
 use Rattle.listing.proofs.StripText.{joined}
 use Rattle.listing.proofs.put_short.Goals as goal
 
-pub total_weight-requires : goal.total_weight-requires
-total_weight-requires c =
+pub overflow_cast-found : goal.overflow_cast-found
+overflow_cast-found c =
     let short = c.args.short in
-    let all = entry-accepted most_short (lists_of short.strip) short.good in
-    omega (arith, all.few, all.same-weights)
+    let most = earned-most (lists_of short.strip) short.good c.choose-found.ensures in
+    search rules
 
 pub returns : goal.returns
 returns c =
