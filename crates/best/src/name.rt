@@ -30,7 +30,8 @@ fn name_of(k: usize, p: Position) -> usize
     }
 }
 
-// The last labels once mark k is at p: its label is the last one of the side on which it lies.
+// The last labels once mark k is at p: its label is the last one of the side on which it lies. Both sides are asked: at one position it lies on
+// neither, so `Sides::with` would stand under a test.
 pub fn after(last: LastLabels, k: usize, p: Position) -> LastLabels
     requires { k < most_short }
     ensures above_is { result.above ≡ last_after above k (position_of p) last.above }

@@ -1,4 +1,5 @@
-// The table: for each pair of last labels, one above and one below, the most that the marks after them can still earn.
+// The table: for each pair of last labels, one above and one below, the most that the marks after them can still earn. Its cells are found by
+// index, for the reason in full's table.rt.
 ghost use Rattle.std.specs.Prelude.{◌≡◌, suc, ◌*◌, ◌<◌, ◌≤◌, length, set, drop};
 ghost use Rattle.best.specs.Best.{work_named};
 ghost use Rattle.best.specs.inner.Handed.{strip_of};

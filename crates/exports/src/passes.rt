@@ -55,7 +55,7 @@ pub extern "C" fn strip_slide(
 }
 
 // A position for every mark in `positions`, 0 for none, and the marks at 0 in `left_out`, heaviest first; 6 to 10 or 12 if a check
-// is not passed. `sum` and `count` are set at every return, to 0 at a refusal.
+// is not passed. `sum` and `count` are set at every return, to 0 at a refusal: two values, so not by `hand_over`.
 #[unsafe(no_mangle)]
 pub extern "C" fn strip_best(
     places: &[i16],

@@ -74,7 +74,7 @@ pub fn check_texts(font: &Font, texts: &[u8], counts: &[u16], room: usize) -> Re
     check(counts.len() <= room, Refusal::ListTooShort)
 }
 
-// Writes the length of every text.
+// Writes the length of every text; by index, as nothing is known of what a `zip` with `iter_mut` has written.
 pub fn fill(font: &Font, texts: &[u8], counts: &[u16], lengths: &mut [u8])
     requires { ReadableTexts texts.now counts.now
         × (list_all length_in_range_lem (lengths_of counts.now texts.now) ≡ true)

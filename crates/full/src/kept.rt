@@ -11,7 +11,8 @@ use crate::passed::if_passed;
 use geometry::order::{at_most, larger};
 use geometry::outside::NO_REACH;
 
-// The reaches that the four positions, in the order 2, 3, 1, 4, leave to the other side, and how many of them are not NO_REACH. A ghost field
+// The reaches that the four positions, in the order 2, 3, 1, 4, leave to the other side, and how many of them are not NO_REACH; where the
+// first mark has none there is no placing. The count is document 01's form, and stands in no answer. A ghost field
 // has one proof at most, hence the bars; `row-held` (proofs/StoredOnce.antt) opens them.
 #[derive(Clone, Copy)]
 pub struct Kept {

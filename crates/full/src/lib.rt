@@ -42,7 +42,8 @@ pub fn check(strip: Strip, gap: u8, positions: &[u8], work: &[i16]) -> Result<()
     )
 }
 
-// The first placing of the strip at a gap of so many dots, or 11 if there is none; 6 to 10 or 12 if a check is not passed.
+// The first placing of the strip at a gap of so many dots, or 11 if there is none. The lent lists are parameters of their own, here and in
+// every call, as a C host lends them; 6 to 10 or 12 if a check is not passed.
 pub fn full(strip: Strip, gap: u8, positions: &mut [u8], work: &mut [i16]) -> Result<(), Refusal>
     ensures { FullContract
         (lists_of strip.entry) gap

@@ -3,7 +3,8 @@ ghost use Rattle.full.specs.inner.Table.{Checked};
 
 use crate::mark::Mark;
 
-// Their lists, and the gap. No answer of the pass depends on a weight, so none is kept.
+// Their lists, and the gap. No answer of the pass depends on a weight, so none is kept. Each pass has marks of its own: what its checks leave
+// differs, and so does a mark, which is over places here and over dots in slide.
 #[derive(Clone, Copy)]
 pub struct Marks<'a> {
     pub places: &'a [i16],

@@ -72,7 +72,7 @@ fn step(before: Sides<i16>, mark: Mark, left_to_other: [i16; 3]) -> Taken
 }
 
 // Writes the position of every mark. Three numbers of its row are read one by one: a slice of the row would want a length in the step's
-// contract.
+// contract. By index: the row, the mark and the position have the same.
 pub fn walk(marks: Marks, work: &[i16], positions: &mut [u8])
     requires { WalkReady marks.places.now marks.lengths.now marks.gap work.now positions.old }
     ensures { Walked marks.entry.places.now marks.entry.lengths.now marks.entry.gap positions.old positions.new }

@@ -15,6 +15,11 @@ module _ {A : Type 0} where
   clear-one zero v (x ∷ old) h = refl
   clear-one (suc n) v (x ∷ old) h = ap (λ (l : List A). v ∷ l) (clear-one n v old (omega arith))
 
+  part : (n : ℕ) (v : A) (old : List A) → n ≤ length old → cleared n v (take n old) ++ drop n old ≡ cleared n v old
+  part zero v old h = refl
+  part (suc n) v [] h = absurd (omega arith)
+  part (suc n) v (x ∷ old) h = ap (λ (l : List A). v ∷ l) (part n v old (omega arith))
+
   -- a turn of a loop that clears
   pub cleared_more : (n : ℕ) (v : A) (xs old : List A) → xs ≡ cleared n v old → n < length old → set xs n v ≡ cleared (n + 1) v old
   cleared_more n v xs old e h = rw (add-one n, e) (clear-one n v old h)
@@ -22,6 +27,10 @@ module _ {A : Type 0} where
   -- its end
   pub cleared-whole : (n i : ℕ) (v : A) (xs old : List A) → i ≡ n → xs ≡ cleared i v old → xs ≡ cleared n v old
   cleared-whole n i v xs old e h = rw (sym e) h
+
+  -- a beginning that is cleared, with what stands behind it
+  pub cleared-part : (n i : ℕ) (v : A) (xs old : List A) → n ≤ length old → i ≡ n → xs ≡ cleared i v (take n old) → xs ++ drop n old ≡ cleared n v old
+  cleared-part n i v xs old h e is = rw (is, e) (part n v old h)
 
   -- what stands behind the cleared part
   pub drop-cleared : (n : ℕ) (v : A) (xs old : List A) → xs ≡ cleared n v old → drop n xs ≡ drop n old

@@ -14,6 +14,7 @@ use crate::limits::{LEAST_PLACE, MOST_GAP, MOST_LENGTH, MOST_MARKS, MOST_PLACE, 
 use crate::refusal::{Refusal, check};
 use crate::strip::Strip;
 
+// Here and below two comparisons, as the definitions have them.
 pub fn place_in_range(place: i16) -> bool
     ensures { result ≡ place_in_range_lem place }
 {
@@ -52,7 +53,8 @@ fn rises(x: i16, y: i16) -> bool
     x < y
 }
 
-// Whether each place is below the next. The list is looked at whole here too: `is_sorted_by` stops at the first that is not.
+// Whether each place is below the next. The list is looked at whole here too: `is_sorted_by` stops at the first that is not, and `windows`
+// gives slices, whose two elements are looked up by index again.
 fn places_rise(places: &[i16]) -> bool
     ensures { result ≡ rising places.now }
 {

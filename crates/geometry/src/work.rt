@@ -8,7 +8,7 @@ pub fn clear<T: Copy>(work: &mut [T], named: usize, zero: T)
     requires { named ≤ length work.old }
     ensures { work.new ≡ cleared named zero work.old }
 {
-    for i in 0..named {
-        work[i] = zero;
+    for cell in &mut work[..named] {
+        *cell = zero;
     }
 }

@@ -6,7 +6,7 @@ ghost use Rattle.job.specs.Outcome.{outcome_of};
 ghost use Rattle.job.specs.Decode.{decode_field};
 ghost use Rattle.job.specs.inner.Step.{row_of, front_of};
 
-use crate::format::{ABSENT_LENGTH, ABSENT_STEP, ABSENT_WEIGHT, MOST_STEP};
+use crate::format::{ABSENT_LENGTH, ABSENT_STEP, ABSENT_WEIGHT, MOST_STEP, WORD_WIDTH};
 use geometry::limits::{MOST_LENGTH, MOST_WEIGHT};
 use geometry::refusal::Refusal;
 
@@ -29,7 +29,7 @@ impl Field {
         ensures { result ≡ (row_of self).width }
     {
         match self {
-            Field::Step | Field::Weight => 2,
+            Field::Step | Field::Weight => WORD_WIDTH,
             Field::Length => 1,
         }
     }
@@ -63,7 +63,7 @@ impl Field {
     }
 }
 
-// The number that one byte or two stand for.
+// The number that one byte or two stand for; `from_be_bytes` takes an array of one size.
 fn number_of(bytes: &[u8]) -> u16
     requires { (byte_width ≤ length bytes.now) × (length bytes.now ≤ word_width) }
     ensures { result ≡ big_endian bytes.now }

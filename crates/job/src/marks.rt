@@ -44,7 +44,7 @@ impl Marks<'_> {
         dot_of(self.strip.places[i]) - dot_of(self.strip.places[i - 1])
     }
 
-    // The record of mark i.
+    // The record of mark i. By index: the step asks for the mark before.
     pub fn record_at(self, i: usize) -> Record
         requires { i < length self.strip.places.now }
         ensures { RecordOf (lists_of self.entry.strip) i result }

@@ -9,6 +9,8 @@ use crate::field::{Field, read_field};
 use geometry::limits::MOST_PLACE;
 use geometry::refusal::Refusal;
 
+// Whether a record is the first, and the place before it, are two parameters in all that follows, as in the definitions.
+
 // A mark as a record has it.
 #[derive(Clone, Copy, Debug, PartialEq, Eq)]
 pub struct Mark {

@@ -3,7 +3,7 @@ use crate::choices::Slid;
 use crate::sides::Side;
 use crate::strip::{Drawn, Mark};
 
-// How far the labels on each side reach, with the gap. Dots are counted from 256 dots left of dot 0.
+// How far the labels on each side reach, with the gap; the test's own, as its sides are (sides.rt). Dots are counted from 256 dots left of dot 0.
 #[derive(Clone, Copy)]
 struct Reaches {
     above: u32,

@@ -10,13 +10,13 @@ use geometry::refusal::Refusal;
 
 // What the pass hands back where it is not refused.
 #[derive(Clone, Copy)]
-struct Answer {
+struct Chosen {
     choice: Choice,
     positions: [u8; 8],
     left_out: [u16; 8],
 }
 
-impl Answer {
+impl Chosen {
     // Whether the positions are an overlap-free choice that earns the sum, and it is the greatest.
     fn earns(&self, drawn: &Drawn) -> bool {
         labels::clash(Model::Best, drawn, &self.positions).is_none()
@@ -46,14 +46,14 @@ impl Answer {
 }
 
 // The call of the pass.
-fn answered(drawn: &Drawn) -> Result<Answer, Refusal> {
+fn answered(drawn: &Drawn) -> Result<Chosen, Refusal> {
     let mut positions = [lists::UNWRITTEN; 8];
     let mut left_out = [lists::UNWRITTEN_NUMBER; 8];
     let mut work = [0u32; best::WORK_NAMED];
     let choice = drawn.with_lists(|strip| {
         best::best(strip, drawn.gap, &mut positions, &mut left_out, &mut work)
     })?;
-    Ok(Answer {
+    Ok(Chosen {
         choice,
         positions,
         left_out,

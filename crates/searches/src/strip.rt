@@ -1,4 +1,4 @@
-// Pseudo-random strips of up to 6 marks.
+// Strips of up to 6 marks, and the lists of one that the passes take.
 ghost use Rattle.std.specs.Prelude.{◌≤◌, length};
 ghost use Rattle.searches.specs.declared.strip.TheConstants.{MOST};
 
@@ -36,7 +36,7 @@ impl fmt::Display for Mark {
 // The length of a label of so many cells, if it is not over 240 dots.
 fn length_in_dots(cells: u8, width: u8) -> Option<u8> {
     let length = cells.checked_mul(width)?;
-    if length <= 240 { Some(length) } else { None }
+    (length <= 240).then_some(length)
 }
 
 // A strip and the gap at which it is to be labelled. (An `ArrayVec` of marks has no `map`, by which the lists for the passes are made.)

@@ -31,6 +31,7 @@ impl Row<'_> {
     }
 
     // One more than the greatest slide below `count` whose cell lies beyond the reach, or 0.
+    // The loop counts down as `furthest` of the specifications does.
     pub fn furthest_slide(self, reach: u16, count: usize) -> usize
         requires { count ≤ length self.cells.now }
         ensures { result ≡ furthest (cell_in self.entry.cells.now) reach count }

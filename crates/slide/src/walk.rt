@@ -36,7 +36,7 @@ fn place_label(row: Row, gap: u8, reaches: Sides<u16>) -> Label
     }
 }
 
-// Sides and left edges for all marks of a strip that has a placing.
+// Sides and left edges for all marks of a strip that has a placing. By index, which the row, the mark and both lists have.
 pub fn walk(marks: Marks, work: &[u16], sides: &mut [u8], edges: &mut [i16])
     requires { WalkReady marks.places.now marks.lengths.now marks.gap (slide_lent sides.old edges.old work.now) }
     ensures { Walked marks.entry.places.now marks.entry.lengths.now marks.entry.gap
