@@ -82,10 +82,9 @@ pub fn read_field(field: Field, map: u8, bytes: &[u8]) -> Result<(u16, &[u8]), R
     if !field.stands_in(map) {
         return Ok((field.absent(), bytes));
     }
-    if bytes.len() < field.width() {
+    let Some((own, rest)) = bytes.split_at_checked(field.width()) else {
         return Err(Refusal::BytesEnd);
-    }
-    let (own, rest) = bytes.split_at(field.width());
+    };
     let value = number_of(own);
     if value == field.absent() {
         return Err(Refusal::AbsentValue);

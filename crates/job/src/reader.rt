@@ -35,10 +35,9 @@ fn read_header(job: &[u8]) -> Result<(Header, &[u8]), Refusal>
     ensures header { outcome_of header_view result ≡ decode_header job.now }
     ensures behind { IfOk result (λ x. x.1.now ≡ drop header_length job.now) }
 {
-    if job.len() < HEADER_LENGTH {
+    let Some((own, rest)) = job.split_at_checked(HEADER_LENGTH) else {
         return Err(Refusal::BytesEnd);
-    }
-    let (own, rest) = job.split_at(HEADER_LENGTH);
+    };
     let count = u16::from_be_bytes([own[0], own[1]]) as usize;
     let place = i16::from_be_bytes([own[2], own[3]]);
     if !header_in_range(count, place) {

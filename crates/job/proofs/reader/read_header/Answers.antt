@@ -12,18 +12,18 @@ pub returns-then-not-header_in_range-clause-header : goal.returns-then-not-heade
 returns-then-not-header_in_range-clause-header c =
     let job = c.args.job.now in
     let n = c.from_be_bytes-count in
-    let count : header_count job ≡ n.result = rw (n.ensures, c.split_at.ensures.front) (count-word job (omega arith)) in
+    let count : header_count job ≡ n.result = rw (n.ensures, c.in-Some.ensures.cases.1) (count-word job c.in-Some.ensures.cases.0) in
     let p = c.from_be_bytes-place in
     let place : header_place job ≡ to_z w16 (of_z w16 p.result) =
-    rw (fetched p.result p.type_inv, p.ensures, c.split_at.ensures.front) (place-word job (omega arith) (λ i. omega (arith, c.type_inv.job i))) in
-    sym (header-out job _ _ (omega arith) count place (sym c.header_in_range.ensures ∙ c.if-not-header_in_range.true))
+    rw (fetched p.result p.type_inv, p.ensures, c.in-Some.ensures.cases.1) (place-word job c.in-Some.ensures.cases.0 (λ i. omega (arith, c.type_inv.job i))) in
+    sym (header-out job _ _ c.in-Some.ensures.cases.0 count place (sym c.header_in_range.ensures ∙ c.if-not-header_in_range.true))
 
 pub returns-clause-header : goal.returns-clause-header
 returns-clause-header c =
     let job = c.args.job.now in
     let n = c.from_be_bytes-count in
-    let count : header_count job ≡ n.result = rw (n.ensures, c.split_at.ensures.front) (count-word job (omega arith)) in
+    let count : header_count job ≡ n.result = rw (n.ensures, c.in-Some.ensures.cases.1) (count-word job c.in-Some.ensures.cases.0) in
     let p = c.from_be_bytes-place in
     let place : header_place job ≡ to_z w16 (of_z w16 p.result) =
-    rw (fetched p.result p.type_inv, p.ensures, c.split_at.ensures.front) (place-word job (omega arith) (λ i. omega (arith, c.type_inv.job i))) in
-    sym (header-good job _ _ (omega arith) count place (sym c.header_in_range.ensures ∙ c.if-not-header_in_range.false))
+    rw (fetched p.result p.type_inv, p.ensures, c.in-Some.ensures.cases.1) (place-word job c.in-Some.ensures.cases.0 (λ i. omega (arith, c.type_inv.job i))) in
+    sym (header-good job _ _ c.in-Some.ensures.cases.0 count place (sym c.header_in_range.ensures ∙ c.if-not-header_in_range.false))
