@@ -73,7 +73,8 @@ impl<'a> Marks<'a> {
         end + self.gap as u16
     }
 
-    // The reach of every name, so that the loops of the table look it up. By index: behind the last mark's a name has no reach. The walk, which needs few, finds each by `reach_of`.
+    // The reach of every name, so that the loops of the table look it up. The walk, which needs few, finds each by `reach_of`. By index: behind
+    // the last mark's a name has no reach.
     pub fn reaches(self) -> [u16; NAMES]
         ensures { Reaches self.entry.gap (strip_of self.entry) result }
     {

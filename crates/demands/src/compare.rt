@@ -14,7 +14,8 @@ pub struct Comparison {
     pub sum: u32,
 }
 
-// The comparison of the two passes at a gap, where both accept the strip.
+// The comparison of the two passes at a gap, where both accept the strip. The refusal is matched by itself: in the arm behind a nested
+// pattern the proof would know nothing of it.
 pub fn best_against_full(
     strip: Strip,
     gap: u8,

@@ -1,7 +1,8 @@
 // The table of what the rest of the strip can still take: for each mark, and each number of dots by which its label may slide, the
 // greatest reach of the other side with which the marks after it can all be placed. A cell holds 0 for none, else one more than that
 // reach's dot: a number and no `Option`, since it stands in lent memory (C interface), and the greater of two is found without a test.
-// Rows are found by index, for the reason in full's table.rt. A side reaches as far as its last label and the gap behind it, so the gap is in every reach and in no test.
+// Rows are found by index, for the reason in full's table.rt.
+// A side reaches as far as its last label and the gap behind it, so the gap is in every reach and in no test.
 ghost use Rattle.std.specs.Prelude.{◌≡◌, ◌||◌, ◌+◌, ◌≤◌, ◌<◌, ltb, eqb, length, get_or};
 ghost use Rattle.geometry.specs.Dot.{empty_reach};
 ghost use Rattle.geometry.specs.Pass.{most_gap};
