@@ -57,7 +57,7 @@ fn renew_cell(
     work[above * NAMES + below] = row.cell(reaches[below], stay, above_left, above_right);
 }
 
-// The row of one last label above, for one mark more: its cells with a last label below of mark k or later stay as they are.
+// The row of one last label above, for one mark more (the work area is written here, so it is a parameter, where `Trial` has it as a field): its cells with a last label below of mark k or later stay as they are.
 fn renew_row(marks: Marks, reaches: &[u16; NAMES], work: &mut [u32], k: usize, above: usize)
     requires renewing { Renewing marks.gap (strip_of marks) reaches.now work.old k (above * names) }
     requires above_before { above < names_before k }

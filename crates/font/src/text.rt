@@ -30,7 +30,8 @@ pub fn count_fits(count: usize) -> bool
     1 <= count && count <= MOST_BYTES
 }
 
-// The width of a text of few bytes.
+// The width of a text of few bytes. A loop: `map` would ask of a closure over its elements that each byte is in the font, and `sum` that the
+// whole fits, which the two steps of the loop say shorter.
 pub fn width(font: &Font, text: &[u8]) -> u32
     requires { Readable text.now }
     ensures { result ≡ text_width text.now }

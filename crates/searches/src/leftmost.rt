@@ -25,11 +25,7 @@ fn reach_after(reach: u32, mark: Mark, gap: u8, by: u8) -> Option<u32> {
     let length = u32::from(mark.length);
     let leftmost = u32::from(mark.dot) + 256 - length;
     let left = leftmost + u32::from(by);
-    if left == reach.max(leftmost) {
-        Some(left + length + u32::from(gap))
-    } else {
-        None
-    }
+    (left == reach.max(leftmost)).then_some(left + length + u32::from(gap))
 }
 
 // Whether all labels are as far left as they go.

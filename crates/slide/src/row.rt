@@ -20,7 +20,7 @@ impl Row<'_> {
     ghost use Rattle.slide.specs.inner.Table.{cell_in};
     ghost use Rattle.slide.specs.inner.Walk.{takes_above, side_if};
 
-    // The cell of the label on the side of the reach, or 0 where the reach is beyond the mark.
+    // The cell of the label on the side of the reach; 0 for none, as in a cell, where the reach is beyond the mark.
     pub fn own_side(self, reach: u16) -> u16
         ensures { result ≡ own_side_lem (mark_of self.entry.mark) reach (cell_in self.entry.cells.now) }
     {
