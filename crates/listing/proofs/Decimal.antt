@@ -21,9 +21,9 @@ same-digit p q m n reaches e =
     ]
 
 -- a number of one digit, and of more
-one-digit : (n : ℕ) → n < 10 → decimal n ≡ (48 + n) ∷ []
+pub one_digit : (n : ℕ) → n < 10 → decimal n ≡ (48 + n) ∷ []
 unfolding decimal
-one-digit n h =
+one_digit n h =
     let last : n % 10 ≡ n = omega arith in
     rw (lt-leb 10000 n (omega arith), lt-leb 1000 n (omega arith), lt-leb 100 n (omega arith), lt-leb 10 n h, last)
 
@@ -43,7 +43,7 @@ last-digit n some small =
 pub library_decimal : (n : ℕ) → n < 100000 → library.decimal n ≡ decimal n
 library_decimal n small =
     decimal_by_steps (λ m ds. m < 100000 → ds ≡ decimal m)
-    (λ m h few. sym (one-digit m h))
+    (λ m h few. sym (one_digit m h))
     (λ m ds some h few. ap (λ (xs : List ℕ). xs ++ ((48 + m % 10) ∷ [])) (h (omega arith)) ∙ sym (last-digit m some few))
     n (omega arith) small
 
