@@ -73,16 +73,14 @@ impl<'a> Marks<'a> {
         end + self.gap as u16
     }
 
-    // The reach of every name, so that the loops of the table look it up. The walk, which needs few, finds each by `reach_of`. By index: behind
-    // the last mark's a name has no reach.
-    pub fn reaches(self) -> [u16; NAMES]
-        ensures { Reaches self.entry.gap (strip_of self.entry) result }
+    // Puts the reach of every name into a list, so that the loops of the table look it up. The walk, which needs few, finds each by `reach_of`.
+    // By index: behind the last mark's a name has no reach. A list given back by value would take its bytes of stack twice.
+    pub fn set_reaches(self, reaches: &mut [u16; NAMES])
+        ensures { Reaches self.entry.gap (strip_of self.entry) reaches.new }
     {
-        let mut reaches = [0; NAMES];
         for name in 0..2 * self.places.len() + 2 {
             reaches[name] = self.reach_of(name);
         }
-        reaches
     }
 
     // Whether mark k at p has room beside the last labels.

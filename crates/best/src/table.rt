@@ -85,7 +85,8 @@ pub fn fill(marks: Marks, work: &mut [u32])
     ensures filled { Filled marks.entry.gap (strip_of marks.entry) 0 work.new }
     ensures rest_kept { drop work_named work.new ≡ drop work_named work.old }
 {
-    let reaches = marks.reaches();
+    let mut reaches = [0; NAMES];
+    marks.set_reaches(&mut reaches);
     clear(work, WORK_NAMED, 0);
     for k in (0..marks.places.len()).rev() {
         renew(marks, &reaches, work, k);

@@ -22,7 +22,7 @@ renew-requires c =
     let loop = c.loop-k in
     let one_more : loop.k ≡ suc (loop.k - 1) = omega arith in
     record {
-      reaches_known = c.reaches-reaches.ensures;
+      reaches_known = c.set_reaches.ensures;
       roomy = omega (arith, c.clear.auto.work);
       in-strip = omega arith;
       partly = none-renewed _ s (loop.k - 1) loop.work (rw one_more at loop.invariant.filled);
