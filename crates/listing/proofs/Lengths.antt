@@ -17,7 +17,7 @@ use Rattle.geometry.proofs.Whole.{found-placing}
 use Rattle.listing.specs.Text.{listing_gap, digit_at, decimal, spaced, line_end, full_tail, full_line, slide_line, best_line}
 
 -- a digit, a number, numbers each after a space, and a line of one number
-pub digit-most : (power n : ℕ) → length (digit_at power n) ≤ 1
+digit-most : (power n : ℕ) → length (digit_at power n) ≤ 1
 digit-most power n = by-leb power n (λ t. length (cond t ((48 + n / power % 10) ∷ []) []) ≤ 1) (λ _. omega arith) (λ _. omega arith)
 
 pub decimal-most : (n : ℕ) → length (decimal n) ≤ 5
@@ -57,4 +57,4 @@ pub best-most : (sum all : ℕ) → length (best_line sum all) ≤ 20
 best-most sum all = simp length-append (omega (arith, decimal-most sum, decimal-most all))
 
 -- what the check alone needs to find the room for a piece behind others
-pub ruleset lengths = (length-append, digit-most, decimal-most, spaced-most, slide-most, best-most)
+pub ruleset lengths = (length-append, decimal-most, spaced-most, slide-most, best-most)

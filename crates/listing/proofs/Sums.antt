@@ -30,11 +30,11 @@ weights-most (w ∷ ws) e =
     omega (arith, (one-to most_weight w (first_good weight_in_range_lem w ws e)).1, weights-most ws (rest-good weight_in_range_lem w ws e))
 
 module _ (s : Strip) (entered : entry most_short s ≡ accepted) where
-  pub short-most : sum_list s.weights ≤ 60000
+  pub short-most : sum_list s.weights ≤ most_weight * most_short
   short-most =
       let good = entry-accepted most_short s entered in omega (arith, weights-most s.weights good.weights-good, good.same-weights, good.few)
 
-  pub earned-most : {sum count : ℕ} {out : List ℕ} → BestFound s sum count out → sum ≤ 60000
+  pub earned-most : {sum count : ℕ} {out : List ℕ} → BestFound s sum count out → sum ≤ most_weight * most_short
   earned-most found =
       let good = entry-accepted most_short s entered in
       let all = ap sum_list (weights-of-marks s good.same-lengths good.same-weights) in
