@@ -24,10 +24,6 @@ module _ {A : Type 0} where
   pub cleared_more : (n : ℕ) (v : A) (xs old : List A) → xs ≡ cleared n v old → n < length old → set xs n v ≡ cleared (n + 1) v old
   cleared_more n v xs old e h = rw (add-one n, e) (clear-one n v old h)
 
-  -- its end
-  pub cleared-whole : (n i : ℕ) (v : A) (xs old : List A) → i ≡ n → xs ≡ cleared i v old → xs ≡ cleared n v old
-  cleared-whole n i v xs old e h = rw (sym e) h
-
   -- a beginning that is cleared, with what stands behind it
   pub cleared-part : (n i : ℕ) (v : A) (xs old : List A) → n ≤ length old → i ≡ n → xs ≡ cleared i v (take n old) → xs ++ drop n old ≡ cleared n v old
   cleared-part n i v xs old h e is = rw (is, e) (part n v old h)

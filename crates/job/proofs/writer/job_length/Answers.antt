@@ -7,9 +7,6 @@ use Rattle.geometry.proofs.Accepted.{entry-accepted}
 use Rattle.job.proofs.RecordsToWrite.{records_from, size-next, none_from, encode-size}
 use Rattle.job.proofs.writer.job_length.Goals as goal
 
-pub loop-i-init : goal.loop-i-init
-loop-i-init c = record { small = omega arith; together = refl }
-
 pub overflow_add-total : goal.overflow_add-total
 overflow_add-total c =
     let marks = lists_of c.args.marks.strip in

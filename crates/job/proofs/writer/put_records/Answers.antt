@@ -1,12 +1,8 @@
 -- `job::writer::put_records` meets its contract: what is put so far and the records to come are together the whole.
-use mathlib.Core.Path.{refl}
 use native.Mathlib.Omega.{arith}
 use Rattle.geometry.specs.Strip.{lists_of}
 use Rattle.job.proofs.RecordsToWrite.{putting-next, putting-ends, own_room}
 use Rattle.job.proofs.writer.put_records.Goals as goal
-
-pub loop-i-init : goal.loop-i-init
-loop-i-init c = record { as_long = refl; room = c.requires; stores = refl }
 
 pub put_record-at-requires : goal.put_record-at-requires
 put_record-at-requires c =
