@@ -1,12 +1,10 @@
 -- `listing::lines::put_full` meets its contract: the pieces one behind the other.
 use mathlib.Core.Path.{ap}
-use mathlib.Core.List.{◌++◌}
 use native.Mathlib.Omega.{arith}
 use lib.ListN.{length, length-append}
-use Rattle.listing.specs.Text.{spaced, full_word, line_end}
+use Rattle.listing.specs.Text.{spaced, full_word}
 use Rattle.listing.proofs.Lengths.{spaced-most}
 use Rattle.listing.proofs.Spacing.{put-same}
-use Rattle.listing.proofs.StripText.{joined}
 use Rattle.listing.proofs.lines.put_full.Goals as goal
 
 pub push-requires : goal.push-requires
@@ -25,11 +23,3 @@ push-requires c =
         rw c.in-Some.is at c.requires.few,
       ),
     )
-
-pub returns : goal.returns
-returns c =
-    let before = c.args.text.now.items in
-    let positions = c.in-Some.positions.now in
-    let listed = put-same c.put_word-2.new.text.items positions c.put_each_spaced.ensures in
-    rw c.in-Some.is (joined before (full_word ++ spaced positions) line_end (joined before full_word (spaced positions) c.put_word-2.ensures listed)
-    c.push.ensures.items)

@@ -15,7 +15,6 @@ use Rattle.std.specs.Prelude.{Result, Ok, Err, IsOk}
 use Rattle.best.specs.declared.choice.Choice.{Choice}
 use Rattle.best.specs.Best.{BestLent, best_lent, best_answer, best_checks, work_named}
 use Rattle.listing.specs.Text.{listing_gap}
-use Rattle.listing.proofs.PassAnswers.{best-found}
 use Rattle.listing.proofs.passes.Short.choose.Goals as goal
 
 -- what is lent beside the left-out list: positions and a work area of zeros
@@ -40,9 +39,3 @@ pub unwrap-requires : goal.unwrap-requires
 unwrap-requires c =
     let all = passed (lists_of c.args.self.strip) c.args.left_out.now c.args.self.good c.requires in
     chosen c.best.result (c.best.ensures.number_is ∙ ap number_of all)
-
-pub returns : goal.returns
-returns c =
-    let s = lists_of c.args.self.strip in
-    let listed = c.args.left_out.now in
-    rw c.unwrap.ensures at (best-found s (lent_to listed) _ _ c.best.ensures (passed s listed c.args.self.good c.requires))
