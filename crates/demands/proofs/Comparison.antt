@@ -18,7 +18,8 @@ use Rattle.demands.proofs.FullNumber.{fits-at-0, none-at-11, answers, fits-exact
 use Rattle.demands.proofs.BestAndFull.{best-passed, best-and-full}
 
 -- both calls on one strip, at one gap
-pub record BothRan (s : Strip) (gap : ℕ) (full_entry full_exit : FullLent) (number : ℕ) (best_entry best_exit : BestLent) (answer : BestAnswer) : Type 0 where
+pub record BothRan (s : Strip) (gap : ℕ) (full_entry full_exit : FullLent) (number : ℕ) (best_entry best_exit : BestLent)
+    (answer : BestAnswer) : Type 0 where
   pub full-ran : FullContract s gap full_entry full_exit number
   pub best-ran : BestContract s gap best_entry best_exit answer
 

@@ -33,7 +33,8 @@ check-then c cs is others = failure-append (c ∷ []) cs ∙ rw (is, others) ref
 
 -- 13 and then 8, whose test is made in two parts
 pub in-two-parts : (bytes : List ℕ) (counts lengths : Bool) (cs : List Check) → (lengths ≡ true → counts ≡ true)
-    → first_failure (letter_check bytes ∷ length_check counts ∷ length_check lengths ∷ cs) ≡ first_failure (letter_check bytes ∷ length_check lengths ∷ cs)
+    → first_failure (letter_check bytes ∷ length_check counts ∷ length_check lengths ∷ cs)
+    ≡ first_failure (letter_check bytes ∷ length_check lengths ∷ cs)
 unfolding first_failure
 in-two-parts bytes counts lengths cs needs =
     let letters = letter_check bytes in
@@ -47,7 +48,8 @@ module _ (text : List ℕ) where
   abbrev width_check : Check
   width_check = length_check (length_in_range_lem (text_width text))
 
-  pub measure-in-turn : {letters count width : Verdict} → first_failure (letter_check text ∷ []) ≡ letters → first_failure (count_check ∷ []) ≡ count
+  pub measure-in-turn : {letters count width : Verdict} → first_failure (letter_check text ∷ []) ≡ letters
+      → first_failure (count_check ∷ []) ≡ count
       → first_failure (width_check ∷ []) ≡ width → measure_verdict text ≡ then letters (then count width)
   unfolding measure_verdict
   measure-in-turn letters count width =

@@ -55,7 +55,8 @@ none-left zero e = e ∙ and-ends _
 none-left (suc n) e = e ∙ and-ends _
 
 -- where no place is left behind place i - 1, or there is none at all
-pub rising-all : (zs : List ℤ) (d : ℤ) (i : ℕ) (good : Bool) → rising zs ≡ (good && rising (drop (i - 1) zs)) → 1 ≤ i → (1 ≤ length zs → i ≤ length zs)
+pub rising-all : (zs : List ℤ) (d : ℤ) (i : ℕ) (good : Bool) → rising zs ≡ (good && rising (drop (i - 1) zs))
+    → 1 ≤ i → (1 ≤ length zs → i ≤ length zs)
     → length zs ≤ i → rising zs ≡ good
 unfolding rising
 rising-all [] d i good so_far some within h = none-left (i - 1) so_far

@@ -25,7 +25,8 @@ module _ {A : Type 0} where
   cleared_more n v xs old e h = rw (add-one n, e) (clear-one n v old h)
 
   -- a beginning that is cleared, with what stands behind it
-  pub cleared-part : (n i : ℕ) (v : A) (xs old : List A) → n ≤ length old → i ≡ n → xs ≡ cleared i v (take n old) → xs ++ drop n old ≡ cleared n v old
+  pub cleared-part : (n i : ℕ) (v : A) (xs old : List A) → n ≤ length old → i ≡ n → xs ≡ cleared i v (take n old)
+      → xs ++ drop n old ≡ cleared n v old
   cleared-part n i v xs old h e is = rw (is, e) (part n v old h)
 
   -- what stands behind the cleared part

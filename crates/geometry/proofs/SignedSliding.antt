@@ -160,7 +160,8 @@ module _ (g n : ℕ) (some : 1 ≤ n) where
 
   -- and the other way round
   parts-all-high : (zs : List ℤ) (ls ws : List ℕ) (ss : List Side) (es : List ℤ) → length zs ≡ length ls → length zs ≡ length ws
-      → list_all place_in_range_lem zs ≡ true → list_all length_in_range_lem ls ≡ true → SlidingPlacing g n (marks_of_lists zs ls ws) ss (map parts es)
+      → list_all place_in_range_lem zs ≡ true → list_all length_in_range_lem ls ≡ true
+      → SlidingPlacing g n (marks_of_lists zs ls ws) ss (map parts es)
       → AllHigh es
   unfolding marks_of_lists
   parts-all-high [] ls ws [] [] p q r t a = tt

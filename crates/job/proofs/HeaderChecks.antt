@@ -34,7 +34,8 @@ place-word (a ∷ b ∷ e ∷ []) h k = absurd (omega arith)
 place-word (a ∷ b ∷ e ∷ f ∷ bs) h k = ap signed (two_bytes e f) ∙ sym (signed-is (e * 256 + f) (omega (arith, k 2, k 3)))
 
 -- from the two values as they were read: refusal 4, or the header
-module _ (bs : List ℕ) (count : ℕ) (z : ℤ) (whole : header_length ≤ length bs) (counted : header_count bs ≡ count) (placed : header_place bs ≡ z) where
+module _ (bs : List ℕ) (count : ℕ) (z : ℤ) (whole : header_length ≤ length bs) (counted : header_count bs ≡ count)
+    (placed : header_place bs ≡ z) where
   pub header-out : header_in_range_lem count z ≡ false → decode_header bs ≡ refusal OutOfRange
   unfolding decode_header
   header-out t = rw (le-leb header_length (length bs) whole, counted, placed, t) refl

@@ -67,7 +67,8 @@ module _ (job : List ℕ) (lent : Strip) (roomy : shortest lent ≡ most_marks) 
         )
 
     -- its text is the count and the lines below it
-    pub accepted-listing : (middle after : List ℕ) → middle ≡ marks_line r.count → StripLines (first_marks r.count left) middle after → TextOf job after
+    pub accepted-listing : (middle after : List ℕ) → middle ≡ marks_line r.count → StripLines (first_marks r.count left) middle after
+        → TextOf job after
     unfolding listing_of
     accepted-listing middle after p lines =
         let s = m.found in

@@ -52,7 +52,8 @@ module _ {A : Type 0} (R : A → ℕ → Type 0) where
       }
 
 -- numbers that a conversion leaves as they are
-pub put-same : (before xs : List ℕ) {after : List ℕ} → ((converted : List ℕ) × AllZip (λ x y. y ≡ x) xs converted × (after ≡ before ++ spaced converted))
+pub put-same : (before xs : List ℕ) {after : List ℕ}
+    → ((converted : List ℕ) × AllZip (λ x y. y ≡ x) xs converted × (after ≡ before ++ spaced converted))
     → after ≡ before ++ spaced xs
 put-same before xs p = rw (each_same xs p.0 p.1) at p.2
 

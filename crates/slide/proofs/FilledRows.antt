@@ -49,7 +49,8 @@ module _
     found_all : t ≡ reach_at g m d → found ≡ furthest next (reach_at g m d) (suc k.label_length)
     found_all t-is = found-is ∙ ap (λ u. furthest next u slides) t-is ∙ sym scanned.left
 
-    pub scanned-more : (own other v : ℕ) → t ≡ reach_at g m d → own ≡ own_side_lem k t next → other ≡ other_side_lem k found → v ≡ max own other
+    pub scanned-more : (own other v : ℕ) → t ≡ reach_at g m d → own ≡ own_side_lem k t next → other ≡ other_side_lem k found
+        → v ≡ max own other
         → d < length row → Scanned g m k next (set row d v) (d + 1) found
     scanned-more own other v t-is own_is other-is v-is inside =
         let all = found_all t-is in

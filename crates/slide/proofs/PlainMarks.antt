@@ -41,7 +41,8 @@ plain_at_lem (z ∷ zs) (l ∷ ls) zero e h = refl
 plain_at_lem (z ∷ zs) (l ∷ ls) (suc i) e h = plain_at_lem zs ls i (omega arith) (omega arith)
 
 -- every label, with a gap that is not too wide, lies inside the coordinates
-plain-inside : (zs : List ℤ) (ls : List ℕ) (g : ℕ) → list_all place_in_range_lem zs ≡ true → list_all length_in_range_lem ls ≡ true → g ≤ most_gap
+plain-inside : (zs : List ℤ) (ls : List ℕ) (g : ℕ) → list_all place_in_range_lem zs ≡ true → list_all length_in_range_lem ls ≡ true
+    → g ≤ most_gap
     → Inside g (plain_marks zs ls)
 unfolding plain_marks
 plain-inside [] ls g p q narrow = tt

@@ -42,7 +42,8 @@ pub record FilledTo (old new : List ℕ) (row d : ℕ) (value : ℕ → ℕ) : T
 
 -- so they do where they were written into the list up to the row's end, with what is behind it put back
 pub cells-written : (old front behind cells : List ℕ) (row n count : ℕ) (value : ℕ → ℕ) → row + row_cells ≤ length old
-    → length front ≡ row + row_cells → behind ≡ drop (row + row_cells) old → count ≡ n → length cells ≡ n → n ≤ row_cells → CellsAre cells value
+    → length front ≡ row + row_cells → behind ≡ drop (row + row_cells) old → count ≡ n → length cells ≡ n → n ≤ row_cells
+    → CellsAre cells value
     → FilledTo old (put_mid row count front cells ++ behind) row n value
 cells-written old front behind cells row n count value inside front-long rest counted many few right =
     rw counted

@@ -12,7 +12,8 @@ use Rattle.geometry.proofs.Verdicts.{handed-on, count-made, pass-in-turn}
 use Rattle.geometry.proofs.entry.check_pass.Goals as goal
 
 -- the verdict on entry, from that of the gap
-abbrev twelve : (gap : ℕ) {t : Bool} {v : Verdict} → v ≡ after_check t GapTooWide accepted → (t ≡ true → gap ≤ most_gap) × (gap ≤ most_gap → t ≡ true)
+abbrev twelve : (gap : ℕ) {t : Bool} {v : Verdict} → v ≡ after_check t GapTooWide accepted
+    → (t ≡ true → gap ≤ most_gap) × (gap ≤ most_gap → t ≡ true)
     → v ≡ first_failure (gap_checks gap)
 twelve gap is exactly = sym (count-made gap most_gap GapTooWide is exactly)
 
