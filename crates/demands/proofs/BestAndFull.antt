@@ -13,7 +13,7 @@ use lib.ListN.{length}
 use Rattle.geometry.specs.Lists.{sum_list}
 use Rattle.geometry.specs.Strip.{Strip, marks_of, most_short}
 use Rattle.geometry.specs.Overlap.{all_labelled}
-use Rattle.geometry.specs.Placing.{first_placing}
+use Rattle.geometry.specs.Placing.{first_placing, best_sum}
 use Rattle.geometry.specs.Refusal.{accepted}
 use Rattle.geometry.proofs.Verdicts.{zero-accepted}
 use Rattle.geometry.proofs.Accepted.{Accepted, pass-accepted, length-marks}
@@ -37,8 +37,12 @@ module _ (s : Strip) (gap : ℕ) (lent left : BestLent) (answer : BestAnswer) (c
   abbrev listed : AcceptedAnswer s gap lent left answer
   listed = call.where-accepted best-passed
 
+  -- it reports the best sum
+  pub reported : answer.sum ≡ best_sum gap (marks_of s)
+  reported = listed.sum-best
+
   -- the strip is accepted
-  good : Accepted most_short s
+  pub good : Accepted most_short s
   good = (pass-accepted most_short s gap (min (length lent.positions) (length lent.left_out)) work_named (length lent.work) best-passed).entered
 
   -- the choice has an entry for each weight

@@ -5,5 +5,7 @@ pub mod BestAndFull
 pub mod TripsByContracts
 pub mod Demands
 pub mod OrderChanged
+pub mod OneStrip
+pub mod OneWeight
 pub mod Comparison
 pub mod ThereAndBack

@@ -2,3 +2,4 @@
 pub mod Demands
 pub mod Compare
 pub mod Trips
+pub mod OneWeight

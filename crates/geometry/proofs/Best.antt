@@ -45,7 +45,7 @@ bare [] = []
 bare (m ∷ ms) = unlabelled ∷ bare ms
 
 -- a mark without a label overlaps nothing
-apart_bare : (g : ℕ) (m : Mark) (ms : List Mark) (c : List Position) → apart g m unlabelled ms c ≡ true
+pub apart_bare : (g : ℕ) (m : Mark) (ms : List Mark) (c : List Position) → apart g m unlabelled ms c ≡ true
 unfolding apart
 apart_bare g m [] c = refl
 apart_bare g m (n ∷ ms) [] = refl

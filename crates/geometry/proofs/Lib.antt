@@ -22,6 +22,7 @@ pub mod Best
 pub mod Whole
 pub mod FirstPlacing
 pub mod Shorter
+pub mod OneMark
 pub mod Layouts
 pub mod Beginnings
 pub mod TwoUnbeaten
