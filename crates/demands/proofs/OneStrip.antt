@@ -2,14 +2,14 @@
 -- but for it, and where it weighs something else they are the same but for its weight. And best accepts what is left where it accepts the
 -- whole: no value is new, each list is one shorter, and the places still rise, since a place that is below the next is also below the one
 -- behind that.
-use mathlib.Core.Path.{◌≡◌, refl, ap}
+use mathlib.Core.Path.{◌≡◌, refl, ap, ap₂}
 use mathlib.Core.Bool.{Bool, true, false≢true}
 use mathlib.Core.List.{List, [], ◌∷◌, ◌++◌}
 use Prim.Native.Nat.{ℕ, zero, suc, ◌<◌}
 use native.Mathlib.Omega.{arith}
 use lib.IntN.{ℤ, pos, negsuc}
 use lib.Signed.{lt_z}
-use lib.ListN.{length, set}
+use lib.ListN.{length, get_or, set}
 use borrow.Author.Tests.{lt-ltb, ltb-true}
 use Rattle.std.specs.Prelude.{remove}
 use Rattle.std.specs.List.{list_all}
@@ -44,6 +44,16 @@ cut (z ∷ zs) [] ws i e f h = absurd (omega arith)
 cut (z ∷ zs) (l ∷ ls) [] i e f h = absurd (omega arith)
 cut (z ∷ zs) (l ∷ ls) (w ∷ ws) zero e f h = record { before = []; after = marks_of_lists zs ls ws; whole = refl; less = refl; reweighed = λ v. refl }
 cut (z ∷ zs) (l ∷ ls) (w ∷ ws) (suc i) e f h = cut-later zs ls ws i z l w (cut zs ls ws i (omega arith) (omega arith) (omega arith))
+
+-- a list of weights that is another but for the one at an index
+pub all-but-one : (ws vs : List ℕ) (i : ℕ) → length ws ≡ length vs → i < length ws → remove vs i ≡ remove ws i → vs ≡ set ws i (get_or vs i 0)
+all-but-one [] vs i e h same = absurd (omega arith)
+all-but-one (w ∷ ws) [] i e h same = absurd (omega arith)
+all-but-one (w ∷ ws) (v ∷ vs) zero e h same = ap (λ (us : List ℕ). v ∷ us) same
+all-but-one (w ∷ ws) (v ∷ vs) (suc i) e h same =
+    let first : v ≡ w = cc in
+    let behind : remove vs i ≡ remove ws i = cc in
+    ap₂ (λ (u : ℕ) (us : List ℕ). u ∷ us) first (all-but-one ws vs i (omega arith) (omega arith) behind)
 
 -- what every element passes is passed by all but one
 all-less : {A : Type 0} (p : A → Bool) (xs : List A) (i : ℕ) → list_all p xs ≡ true → list_all p (remove xs i) ≡ true

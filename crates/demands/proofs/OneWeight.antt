@@ -2,25 +2,22 @@
 -- difference if the mark is labelled, else not at all; so the greatest sums stand as those of one choice do. And a choice is as good
 -- without a mark that it leaves out, while one that labels the mark loses no more than its weight (geometry's OneMark has both). A strip
 -- that is accepted is cut at its mark, and what two calls report are the greatest sums.
-use mathlib.Core.Path.{◌≡◌, refl}
+use mathlib.Core.Path.{◌≡◌, refl, sym, ap, ◌∙◌}
 use mathlib.Core.List.{List, ◌∷◌, ◌++◌}
 use Prim.Native.Nat.{ℕ, ◌-◌, ◌<◌}
 use native.Mathlib.Omega.{arith}
-use lib.ListN.{length}
+use lib.ListN.{length, set}
 use Rattle.geometry.specs.Lists.{greatest_of, prefixed, words_of}
 use Rattle.geometry.specs.Mark.{Mark}
 use Rattle.geometry.specs.Strip.{Strip, marks_of_lists, marks_of, most_short}
 use Rattle.geometry.specs.Overlap.{apart, free}
 use Rattle.geometry.specs.Placing.{sum_of, best_sum}
-use Rattle.geometry.specs.Refusal.{accepted}
-use Rattle.geometry.specs.Entry.{entry}
 use Rattle.geometry.proofs.Accepted.{Accepted, entry-accepted, accepted-entry}
 use Rattle.geometry.proofs.OneMark.{best-erased, best-with-0, best-reweighed}
-use Rattle.best.specs.Best.{BestAnswer, BestLent, BestContract}
 use Rattle.best.specs.LeftOut.{weight_of_lem}
-use Rattle.demands.specs.OneWeight.{IsMark, with_weight, without, weighing, Follows, Lowered, OneWeight, BoundsMet}
+use Rattle.demands.specs.OneWeight.{IsMark, AlikeBut, without, weighing, Follows, Lowered, Reports, OneWeight, BoundsMet}
 use Rattle.demands.proofs.BestAndFull.{good, reported}
-use Rattle.demands.proofs.OneStrip.{Cut, cut, accepted-less}
+use Rattle.demands.proofs.OneStrip.{Cut, cut, all-but-one, accepted-less}
 
 -- strip 11, computed
 pub bounds-met : BoundsMet
@@ -51,7 +48,10 @@ module _ (g : ℕ) (before after : List Mark) (m : Mark) where
       }
 
   lowered : Lowered m.weight (best_sum g (before ++ m ∷ after)) (best_sum g (before ++ after))
-  lowered = record { lowered-at-most = omega (arith, best-erased g m after before); not-raised = omega (arith, best-with-0 g m after before) }
+  lowered =
+      let lost = best-erased g m after before in
+      let gained = best-with-0 g m after before in
+      record { lowered-at-most = omega (arith, lost); not-raised = omega (arith, gained) }
 
 -- for strips that are accepted
 module _ (s : Strip) (k : ℕ) (m : IsMark k s) where
@@ -59,41 +59,49 @@ module _ (s : Strip) (k : ℕ) (m : IsMark k s) where
   within : k - 1 < length s.places
   within = omega (arith, m.from-1, m.to-last)
 
-  less-accepted : entry most_short s ≡ accepted → entry most_short (without k s) ≡ accepted
-  less-accepted e = accepted-entry most_short (without k s) (omega arith) (accepted-less most_short s (k - 1) within (entry-accepted most_short s e))
+  less-accepted : Accepted most_short s → Accepted most_short (without k s)
+  less-accepted a = accepted-less most_short s (k - 1) within a
 
   module _ (g : ℕ) (a : Accepted most_short s) where
     abbrev its-cut : Cut s.places s.lengths s.weights (k - 1)
     its-cut = cut s.places s.lengths s.weights (k - 1) a.same-lengths a.same-weights within
 
-    strip-follows : (w : ℕ) → Follows (weight_of_lem s.weights k) w (best_sum g (marks_of s)) (best_sum g (marks_of (with_weight k w s)))
-    strip-follows w = rw (its-cut.whole, its-cut.reweighed w) (follows g its-cut.before its-cut.after _ w)
-
     strip-lowered : Lowered (weight_of_lem s.weights k) (best_sum g (marks_of s)) (best_sum g (marks_of (without k s)))
     strip-lowered = rw (its-cut.whole, its-cut.less) (lowered g its-cut.before its-cut.after _)
 
--- and for what two calls report
-module _ (s t : Strip) (gap : ℕ) (lent left new_lent new_left : BestLent) (answer new_answer : BestAnswer)
-    (call : BestContract s gap lent left answer) (zero : answer.number ≡ 0) (new_call : BestContract t gap new_lent new_left new_answer)
-    (new_zero : new_answer.number ≡ 0) where
-  both-reported : (Stands : ℕ → ℕ → Type 0) → (Accepted most_short s → Stands (best_sum gap (marks_of s)) (best_sum gap (marks_of t)))
-      → Stands answer.sum new_answer.sum
-  both-reported Stands law =
-      rw (reported s gap lent left answer call zero, reported t gap new_lent new_left new_answer new_call new_zero)
-      (law (good s gap lent left answer call zero))
+    module _ (t : Strip) (b : Accepted most_short t) (alike : AlikeBut k s t) where
+      -- the other strip's weights
+      its-weights : t.weights ≡ set s.weights (k - 1) (weight_of_lem t.weights k)
+      its-weights =
+          let same = ap length alike.places-alike in
+          let one-each : length s.weights ≡ length t.weights = omega (arith, same, a.same-weights, b.same-weights) in
+          all-but-one s.weights t.weights (k - 1) one-each (omega (arith, within, a.same-weights)) alike.other-weights-alike
+
+      its-marks : marks_of t ≡ marks_of_lists s.places s.lengths (set s.weights (k - 1) (weight_of_lem t.weights k))
+      its-marks = rw (alike.places-alike, alike.lengths-alike) (ap (marks_of_lists s.places s.lengths) its-weights)
+
+      strip-follows : Follows (weight_of_lem s.weights k) (weight_of_lem t.weights k) (best_sum g (marks_of s)) (best_sum g (marks_of t))
+      strip-follows = rw (its-cut.whole, its-marks, its-cut.reweighed (weight_of_lem t.weights k)) (follows g its-cut.before its-cut.after _ _)
+
+-- what a call says of its strip, and of the sum that it reports
+module _ (s : Strip) (gap sum : ℕ) (call : Reports s gap sum) where
+  its-strip : Accepted most_short s
+  its-strip = good s gap call.lent call.left call.answer call.meets call.number-zero
+
+  its-sum : sum ≡ best_sum gap (marks_of s)
+  its-sum = sym call.sum_is ∙ reported s gap call.lent call.left call.answer call.meets call.number-zero
 
 pub one-weight : OneWeight
 one-weight =
     record {
-      marks-reweighed = follows;
+      marks-alike = follows;
+      strips-alike = λ s t g k e f m alike. strip-follows s k m g (entry-accepted most_short s e) t (entry-accepted most_short t f) alike;
+      calls-alike = λ s t gap k sum new_sum call new_call m alike.
+          rw (its-sum s gap sum call, its-sum t gap new_sum new_call)
+          (strip-follows s k m gap (its-strip s gap sum call) t (its-strip t gap new_sum new_call) alike);
       marks-without = lowered;
-      strips-reweighed = λ s g k w m e _. strip-follows s k m g (entry-accepted most_short s e) w;
-      strips-without = λ s g k m e. strip-lowered s k m g (entry-accepted most_short s e);
-      without-accepted = less-accepted;
-      calls-reweighed = λ s gap k w lent left new_lent new_left answer new_answer m call zero new_call new_zero.
-          both-reported s (with_weight k w s) gap lent left new_lent new_left answer new_answer call zero new_call new_zero
-          (Follows (weight_of_lem s.weights k) w) (λ a. strip-follows s k m gap a w);
-      calls-without = λ s gap k lent left new_lent new_left answer new_answer m call zero new_call new_zero.
-          both-reported s (without k s) gap lent left new_lent new_left answer new_answer call zero new_call new_zero
-          (Lowered (weight_of_lem s.weights k)) (strip-lowered s k m gap);
+      strips-without = λ s g k e m. strip-lowered s k m g (entry-accepted most_short s e);
+      calls-without = λ s gap k sum rest call less_call m.
+          rw (its-sum s gap sum call, its-sum (without k s) gap rest less_call) (strip-lowered s k m gap (its-strip s gap sum call));
+      without-accepted = λ s k e m. accepted-entry most_short (without k s) (omega arith) (less-accepted s k m (entry-accepted most_short s e));
     }
