@@ -12,6 +12,7 @@ mod random_best;
 mod random_full;
 mod random_largest;
 mod random_slide;
+mod random_weights;
 mod search;
 mod sides;
 mod slid;
@@ -19,6 +20,8 @@ mod strip;
 mod sums;
 
 use draw::Draw;
+use random::LABELLED;
+use random_weights::MOVES;
 
 // Strips of up to 6 marks: at gap 0 some one in six of them cannot have a label for every mark, at gap 8 more than half.
 fn random_corners() {
@@ -27,8 +30,8 @@ fn random_corners() {
         shortest: 1,
         spread: 24,
     };
-    random::random("full random", 1, draw, random_full::compared);
-    random::random("best random", 2, draw, random_best::compared);
+    random::random("full random", &LABELLED, 1, draw, random_full::compared);
+    random::random("best random", &LABELLED, 2, draw, random_best::compared);
 }
 
 // Marks side by side with labels longer than all of them lie apart: of 6 marks two or more are left out.
@@ -38,7 +41,27 @@ fn random_crowds() {
         shortest: 12,
         spread: 24,
     };
-    random::random("best random, crowded", 5, crowd, random_best::compared);
+    random::random(
+        "best random, crowded",
+        &LABELLED,
+        5,
+        crowd,
+        random_best::compared,
+    );
+    random::random(
+        "best, one weight changed",
+        &MOVES,
+        8,
+        crowd,
+        random_weights::reweighed,
+    );
+    random::random(
+        "best, one mark taken out",
+        &MOVES,
+        9,
+        crowd,
+        random_weights::without_one,
+    );
 }
 
 // Labels of up to 4 dots, with which 6 marks always fit at gap 0, and of 4 to 7.
@@ -48,13 +71,19 @@ fn random_slides() {
         shortest: 1,
         spread: 4,
     };
-    random::random("slide random", 3, short, random_slide::compared);
+    random::random("slide random", &LABELLED, 3, short, random_slide::compared);
     let long = Draw {
         steps: 2,
         shortest: 4,
         spread: 4,
     };
-    random::random("slide random, long labels", 4, long, random_slide::compared);
+    random::random(
+        "slide random, long labels",
+        &LABELLED,
+        4,
+        long,
+        random_slide::compared,
+    );
 }
 
 // Labels of 1 to 6 cells, with which each width from 1 to 30 is found, and of 1 to 12, of which many have room at widths at which they
@@ -65,7 +94,13 @@ fn random_letters() {
         shortest: 1,
         spread: 6,
     };
-    random::random("largest random", 6, short, random_largest::compared);
+    random::random(
+        "largest random",
+        &LABELLED,
+        6,
+        short,
+        random_largest::compared,
+    );
     let long = Draw {
         steps: 12,
         shortest: 1,
@@ -73,6 +108,7 @@ fn random_letters() {
     };
     random::random(
         "largest random, long labels",
+        &LABELLED,
         7,
         long,
         random_largest::compared,

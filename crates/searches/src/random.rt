@@ -5,6 +5,15 @@ use agreed::output::Output;
 use agreed::tally::Tally;
 use std::fmt::Write;
 
+// How many of the things that strips show are of each kind; a group names its kinds.
+pub type Counts = [u32; 3];
+
+pub fn add(counts: &mut Counts, more: Counts) {
+    for (count, more) in counts.iter_mut().zip(more) {
+        *count = count.wrapping_add(more);
+    }
+}
+
 // Whether every mark of a strip has a label.
 #[derive(Clone, Copy)]
 pub enum Labelled {
@@ -12,32 +21,48 @@ pub enum Labelled {
     NotEvery,
 }
 
+// What the kind is called of which the strips with `Labelled::Every` are.
+pub const LABELLED: [&str; 1] = ["every mark labelled in"];
+
+impl From<Labelled> for Counts {
+    fn from(labelled: Labelled) -> Counts {
+        match labelled {
+            Labelled::Every => [1, 0, 0],
+            Labelled::NotEvery => [0; 3],
+        }
+    }
+}
+
 // What a strip shows of a pass: what both give it if the pass agrees with the search, or nothing.
 pub type Outcome = Option<Labelled>;
 
-// How many strips of a group agree, and in how many every mark has a label.
+// How many strips of a group agree, and what they show.
 #[derive(Clone, Copy)]
 struct Strips {
     tally: Tally,
-    whole: u32,
+    counts: Counts,
 }
 
 impl Strips {
     fn new() -> Strips {
-        let tally = Tally::new();
-        Strips { tally, whole: 0 }
+        Strips {
+            tally: Tally::new(),
+            counts: [0; 3],
+        }
     }
 
-    fn count(&mut self, outcome: Outcome) {
-        let is_whole = matches!(outcome, Some(Labelled::Every));
+    fn count<T: Into<Counts>>(&mut self, outcome: Option<T>) {
         self.tally.count(outcome.is_some());
-        self.whole = self.whole.wrapping_add(u32::from(is_whole));
+        if let Some(shown) = outcome {
+            add(&mut self.counts, shown.into());
+        }
     }
 
-    fn print(&self, name: &str) {
-        let whole = self.whole;
+    fn print(&self, name: &str, kinds: &[&str]) {
         self.tally.print(name);
-        let _ = writeln!(Output, "  every mark labelled in {whole}");
+        for (kind, count) in kinds.iter().zip(self.counts) {
+            let _ = writeln!(Output, "  {kind} {count}");
+        }
     }
 }
 
@@ -48,7 +73,13 @@ const GAPS: u8 = 9;
 const STRIPS: usize = 500 * GAPS as usize;
 
 // A group: the strips from a seed on, each given to what compares a pass with the search.
-pub fn random<F: Fn(&Drawn) -> Outcome + Drop>(name: &str, seed: u64, draw: Draw, compared: F)
+pub fn random<T: Copy + Into<Counts>, F: Fn(&Drawn) -> Option<T> + Drop>(
+    name: &str,
+    kinds: &[&str],
+    seed: u64,
+    draw: Draw,
+    compared: F,
+)
     requires { F.IsAlwaysCallable compared }
 {
     let mut source = Source::new(seed);
@@ -61,5 +92,5 @@ pub fn random<F: Fn(&Drawn) -> Outcome + Drop>(name: &str, seed: u64, draw: Draw
         }
         strips.count(outcome);
     }
-    strips.print(name);
+    strips.print(name, kinds);
 }

@@ -10,8 +10,8 @@ use geometry::refusal::Refusal;
 
 // What the pass hands back where it is not refused.
 #[derive(Clone, Copy)]
-struct Chosen {
-    choice: Choice,
+pub struct Chosen {
+    pub choice: Choice,
     positions: [u8; 8],
     left_out: [u16; 8],
 }
@@ -37,7 +37,7 @@ impl Chosen {
             })
     }
 
-    fn labelled(&self) -> Labelled {
+    pub fn labelled(&self) -> Labelled {
         match self.choice.count {
             0 => Labelled::Every,
             _ => Labelled::NotEvery,
@@ -46,7 +46,7 @@ impl Chosen {
 }
 
 // The call of the pass.
-fn answered(drawn: &Drawn) -> Result<Chosen, Refusal> {
+pub fn answered(drawn: &Drawn) -> Result<Chosen, Refusal> {
     let mut positions = [lists::UNWRITTEN; 8];
     let mut left_out = [lists::UNWRITTEN_NUMBER; 8];
     let mut work = [0u32; best::WORK_NAMED];

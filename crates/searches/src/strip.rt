@@ -83,6 +83,25 @@ impl Drawn {
         Some(wide)
     }
 
+    // The strip with another weight for the mark at index `k`.
+    pub fn with_weight(&self, k: usize, weight: u16) -> Drawn {
+        let mut other = *self;
+        if let Some(mark) = other.all[..self.count].get_mut(k) {
+            mark.weight = weight;
+        }
+        other
+    }
+
+    // The strip without the mark at index `k`.
+    pub fn without(&self, k: usize) -> Drawn {
+        let mut rest = *self;
+        if k < self.count {
+            rest.all[k..self.count].rotate_left(1);
+            rest.count -= 1;
+        }
+        rest
+    }
+
     // What a call gives with the strip as the lists that the passes take.
     pub fn with_lists<R, F: FnOnce(Strip) -> R>(&self, call: F) -> R
         requires { F.IsAlwaysCallable call }
