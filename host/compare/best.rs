@@ -87,6 +87,27 @@ fn choice(call: &Call, positions: &Lent<u8>, left_out: &Lent<u16>, sum: u32, cou
     ensure(left_out.written(&out), "the left-out list, heaviest first, or what stands behind it")
 }
 
+// The sum that the call reports for a strip that it accepts.
+pub fn reported(strip: &Strip, gap: u8) -> Result<u32, String> {
+    let mut positions = vec![0; strip.places.len()];
+    let mut left_out = vec![0; strip.places.len()];
+    let mut work = vec![0; LIMITS.work];
+    let (mut sum, mut count) = (0, 0);
+    let number = calls::best(
+        &strip.places,
+        &strip.lengths,
+        &strip.weights,
+        gap,
+        &mut positions,
+        &mut left_out,
+        &mut work,
+        &mut sum,
+        &mut count,
+    );
+    ensure(number == 0, &format!("number {number}, not 0"))?;
+    Ok(sum)
+}
+
 // A search for the greatest sum at a gap.
 pub type Search = fn(&Strip, i32) -> u32;
 

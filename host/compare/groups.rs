@@ -5,7 +5,7 @@ use crate::near::{any_strip, some_strip};
 use crate::random::Random;
 use crate::strips::{fitting_strip, Shape, Strip};
 use crate::texts::{many_counts, some_filling, some_text, Filling};
-use crate::{best, full, job, largest, slide, texts};
+use crate::{best, full, job, largest, slide, texts, weights};
 use std::cell::RefCell;
 use std::fmt::Debug;
 
@@ -103,6 +103,15 @@ fn many_left_out_call(random: &mut Random, limits: &Limits) -> Call {
     while !(often(&strip, 1) && often(&strip, 1_000)) {
         strip.weights = strip.places.iter().map(|_| weights[random.below(4)]).collect();
     }
+    let gap = some_gap(random);
+    some_call(random, strip, gap, limits, false)
+}
+
+// Up to the most marks that a pass takes, and at least one, of every density; nothing damaged.
+fn sound_call(random: &mut Random, limits: &Limits) -> Call {
+    let marks = random.between(1, limits.marks as i32) as usize;
+    let shape = Shape { step: random.between(1, 40), length: [10, 40, 120, 240][random.below(4)] };
+    let strip = any_strip(random, marks, shape);
     let gap = some_gap(random);
     some_call(random, strip, gap, limits, false)
 }
@@ -229,6 +238,23 @@ fn largest_group(name: &str, seed: u64, cases: usize, numbers: &[u8], widths: us
     cases
 }
 
+// Each of these groups must meet sums that move by all of a weight, by a part of it, and by nothing.
+fn weights_group(name: &str, seed: u64, cases: usize, change: weights::Change) -> usize {
+    let met = RefCell::new([0; 3]);
+    let compare = |random: &mut Random, call: &Call| {
+        met.borrow_mut()[change(random, call)? as usize] += 1;
+        Ok(0)
+    };
+    group(name, seed, cases, &[0], |r| sound_call(r, &best::LIMITS), compare);
+    let [all, part, nothing] = met.into_inner();
+    println!("{name}: sums moved by all of it in {all}, by a part in {part}, by nothing in {nothing}");
+    if [all, part, nothing].contains(&0) {
+        println!("{name}: one of these was not met");
+        std::process::exit(1);
+    }
+    cases
+}
+
 fn cells_to_6(random: &mut Random, limits: &Limits) -> Call {
     cells_call(random, 6, limits)
 }
@@ -275,6 +301,8 @@ pub fn run_all() -> usize {
         best_group("best, to 60 marks, all reaches", 8, 1_500, BEST_MANY, large_call, best::by_reaches),
         best_group("best, strips 7, 8, 9 and 11, plain search", 16, 500, BEST_FEW, worked_call, best::by_plain_search),
         best_group("best, all but four left out, all reaches", 13, 1_500, &[0], many_left_out_call, best::by_reaches),
+        weights_group("best, one weight changed", 30, 10_000, weights::reweighed),
+        weights_group("best, one mark taken out", 31, 10_000, weights::without_one),
         largest_group("largest, to 6 marks, plain search", 26, 10_000, FEW, 30, cells_to_6, full::by_plain_search),
         largest_group("largest, to 60 marks, dead ends kept", 27, 3_000, FEW, 30, cells_to_60, full::by_dead_ends),
         largest_group("largest, to 4,000 marks, by calls of full", 28, 1_000, MANY, 20, many_cells_call, largest::by_full),

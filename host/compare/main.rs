@@ -20,6 +20,7 @@ mod marks;
 mod near;
 mod slide;
 mod texts;
+mod weights;
 
 fn main() {
     let total = groups::run_all();
