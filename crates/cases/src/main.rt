@@ -11,6 +11,7 @@ mod lent;
 mod listings;
 mod passes;
 mod ranges;
+mod weights;
 mod worked;
 
 use agreed::tally;
@@ -24,5 +25,6 @@ fn main() {
     tally::group("ends of the coordinates", ends::ends);
     tally::group("job bytes", jobs::jobs);
     tally::group("left-out lists", crowds::crowds);
+    tally::group("one weight", weights::weights);
     tally::group("listings", listings::listings);
 }
