@@ -185,6 +185,8 @@ uint8_t strip_slide(const int16_t *places, size_t places_len, const uint8_t *len
  * sum of the weights of the labelled marks, and no such list has a greater one; which of those with that sum is open. The first
  * *count elements of left_out are the numbers of the marks at 0, each once: by falling weight, and equal weights by rising number.
  * The first STRIP_WORK_BEST elements of work are 0 and the rest of it is unchanged.
+ * At one gap, of two calls that give 0: where the lists differ in one mark's weight alone, *sum differs by at most the difference of
+ * those weights and does not move the other way; where one mark is taken out, *sum falls by at most its weight and does not rise.
  * 6 to 10 and 12: *sum and *count are 0, nothing else is changed. 9 compares both answer lists with the count of marks.
  */
 uint8_t strip_best(const int16_t *places, size_t places_len, const uint8_t *lengths, size_t lengths_len,

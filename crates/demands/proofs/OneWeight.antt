@@ -19,20 +19,6 @@ use Rattle.demands.specs.OneWeight.{IsMark, AlikeBut, without, weighing, Follows
 use Rattle.demands.proofs.BestAndFull.{good, reported}
 use Rattle.demands.proofs.OneStrip.{Cut, cut, all-but-one, accepted-less}
 
--- strip 11, computed
-pub bounds-met : BoundsMet
-unfolding best_sum greatest_of prefixed words_of marks_of_lists apart free sum_of
-bounds-met =
-    record {
-      at-first = refl;
-      raised-by-all = refl;
-      raised-by-none = refl;
-      raised-by-some = refl;
-      none-lost = refl;
-      some-lost = refl;
-      all-lost = refl;
-    }
-
 -- for all lists of marks
 module _ (g : ℕ) (before after : List Mark) (m : Mark) where
   follows : (w : ℕ) → Follows m.weight w (best_sum g (before ++ m ∷ after)) (best_sum g (before ++ weighing w m ∷ after))
@@ -104,4 +90,18 @@ one-weight =
       calls-without = λ s gap k sum rest call less_call m.
           rw (its-sum s gap sum call, its-sum (without k s) gap rest less_call) (strip-lowered s k m gap (its-strip s gap sum call));
       without-accepted = λ s k e m. accepted-entry most_short (without k s) (omega arith) (less-accepted s k m (entry-accepted most_short s e));
+    }
+
+-- strip 11, computed
+pub bounds-met : BoundsMet
+unfolding best_sum greatest_of prefixed words_of marks_of_lists apart free sum_of
+bounds-met =
+    record {
+      at-first = refl;
+      raised-by-all = refl;
+      raised-by-none = refl;
+      raised-by-some = refl;
+      none-lost = refl;
+      some-lost = refl;
+      all-lost = refl;
     }

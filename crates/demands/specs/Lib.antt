@@ -1,4 +1,4 @@
--- The three demands, and what small functions over the public calls show of them.
+-- The three demands, what small functions over the public calls show of them, and how much one weight can do.
 pub mod Demands
 pub mod Compare
 pub mod Trips

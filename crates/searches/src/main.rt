@@ -1,5 +1,5 @@
-// A test program: random strips, at gaps of 0 to 8 dots, against a plain search through all choices. It prints two lines for each group,
-// and a line for each strip that disagrees.
+// A test program: random strips, at gaps of 0 to 8 dots, against a plain search through all choices, and the best pass against itself. It
+// prints a few lines for each group, and a line for each strip that disagrees.
 #![tactic(auto)]
 
 mod answer;
@@ -20,7 +20,6 @@ mod strip;
 mod sums;
 
 use draw::Draw;
-use random::LABELLED;
 use random_weights::MOVES;
 
 // Strips of up to 6 marks: at gap 0 some one in six of them cannot have a label for every mark, at gap 8 more than half.
@@ -30,8 +29,8 @@ fn random_corners() {
         shortest: 1,
         spread: 24,
     };
-    random::random("full random", &LABELLED, 1, draw, random_full::compared);
-    random::random("best random", &LABELLED, 2, draw, random_best::compared);
+    random::random("full random", 1, draw, random_full::compared);
+    random::random("best random", 2, draw, random_best::compared);
 }
 
 // Marks side by side with labels longer than all of them lie apart: of 6 marks two or more are left out.
@@ -41,21 +40,15 @@ fn random_crowds() {
         shortest: 12,
         spread: 24,
     };
-    random::random(
-        "best random, crowded",
-        &LABELLED,
-        5,
-        crowd,
-        random_best::compared,
-    );
-    random::random(
+    random::random("best random, crowded", 5, crowd, random_best::compared);
+    random::group(
         "best, one weight changed",
         &MOVES,
         8,
         crowd,
         random_weights::reweighed,
     );
-    random::random(
+    random::group(
         "best, one mark taken out",
         &MOVES,
         9,
@@ -71,19 +64,13 @@ fn random_slides() {
         shortest: 1,
         spread: 4,
     };
-    random::random("slide random", &LABELLED, 3, short, random_slide::compared);
+    random::random("slide random", 3, short, random_slide::compared);
     let long = Draw {
         steps: 2,
         shortest: 4,
         spread: 4,
     };
-    random::random(
-        "slide random, long labels",
-        &LABELLED,
-        4,
-        long,
-        random_slide::compared,
-    );
+    random::random("slide random, long labels", 4, long, random_slide::compared);
 }
 
 // Labels of 1 to 6 cells, with which each width from 1 to 30 is found, and of 1 to 12, of which many have room at widths at which they
@@ -94,13 +81,7 @@ fn random_letters() {
         shortest: 1,
         spread: 6,
     };
-    random::random(
-        "largest random",
-        &LABELLED,
-        6,
-        short,
-        random_largest::compared,
-    );
+    random::random("largest random", 6, short, random_largest::compared);
     let long = Draw {
         steps: 12,
         shortest: 1,
@@ -108,7 +89,6 @@ fn random_letters() {
     };
     random::random(
         "largest random, long labels",
-        &LABELLED,
         7,
         long,
         random_largest::compared,

@@ -5,7 +5,7 @@ use agreed::output::Output;
 use agreed::tally::Tally;
 use std::fmt::Write;
 
-// How many of the things that strips show are of each kind; a group names its kinds.
+// How many of the things that the strips of a group show are of each kind.
 pub type Counts = [u32; 3];
 
 pub fn add(counts: &mut Counts, more: Counts) {
@@ -21,8 +21,8 @@ pub enum Labelled {
     NotEvery,
 }
 
-// What the kind is called of which the strips with `Labelled::Every` are.
-pub const LABELLED: [&str; 1] = ["every mark labelled in"];
+// What the one kind is called that is counted of these.
+const LABELLED: [&str; 1] = ["every mark labelled in"];
 
 impl From<Labelled> for Counts {
     fn from(labelled: Labelled) -> Counts {
@@ -72,8 +72,8 @@ const GAPS: u8 = 9;
 // How many strips a group has: 500 at each gap.
 const STRIPS: usize = 500 * GAPS as usize;
 
-// A group: the strips from a seed on, each given to what compares a pass with the search.
-pub fn random<T: Copy + Into<Counts>, F: Fn(&Drawn) -> Option<T> + Drop>(
+// A group: the strips from a seed on, each given to what says whether a pass agrees, and what the strip shows.
+pub fn group<T: Copy + Into<Counts>, F: Fn(&Drawn) -> Option<T> + Drop>(
     name: &str,
     kinds: &[&str],
     seed: u64,
@@ -93,4 +93,11 @@ pub fn random<T: Copy + Into<Counts>, F: Fn(&Drawn) -> Option<T> + Drop>(
         strips.count(outcome);
     }
     strips.print(name, kinds);
+}
+
+// A group of which it is shown how often every mark has a label.
+pub fn random<F: Fn(&Drawn) -> Outcome + Drop>(name: &str, seed: u64, draw: Draw, compared: F)
+    requires { F.IsAlwaysCallable compared }
+{
+    group(name, &LABELLED, seed, draw, compared);
 }

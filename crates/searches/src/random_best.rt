@@ -37,7 +37,7 @@ impl Chosen {
             })
     }
 
-    pub fn labelled(&self) -> Labelled {
+    fn labelled(&self) -> Labelled {
         match self.choice.count {
             0 => Labelled::Every,
             _ => Labelled::NotEvery,
