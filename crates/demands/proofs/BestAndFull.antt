@@ -63,7 +63,7 @@ module _ (s : Strip) (gap : ℕ) (lent left : BestLent) (answer : BestAnswer) (c
         listed = listed.positions-written;
         overlap-free = listed.overlap-free;
         sum-earned = listed.sum-earned;
-        greatest = λ other overlap-free. rw listed.sum-best (best-bounds gap (marks_of s) other overlap-free);
+        greatest = λ other overlap-free. rw reported (best-bounds gap (marks_of s) other overlap-free);
         out_written = listed.out_written;
         out-counted = listed.out-counted;
         out_once = each-left-out-once s.weights listed.choice enough-weights good.weights-good;
@@ -89,7 +89,7 @@ module _ (s : Strip) (gap : ℕ) (lent left : BestLent) (answer : BestAnswer) (c
   placing-exactly : (answer.sum ≡ sum_list s.weights) ↔ (first_placing gap (marks_of s) ≡ none → ⊥)
   placing-exactly =
       let b = best-whole-iff-placing gap s good.same-lengths good.same-weights good.weights-good in
-      (λ earned. b.0 (sym listed.sum-best ∙ earned), λ found. listed.sum-best ∙ b.1 found)
+      (λ earned. b.0 (sym reported ∙ earned), λ found. reported ∙ b.1 found)
 
   -- with a call of the full pass that is past its checks
   module _ (full_entry full_exit : FullLent) (number : ℕ) (full-call : FullContract s gap full_entry full_exit number)

@@ -15,7 +15,7 @@ use Rattle.full.specs.Full.{FullLent, full_checks, FullContract}
 use Rattle.best.specs.Best.{BestAnswer, BestLent, best_checks, BestContract}
 use Rattle.demands.specs.Compare.{BestAgainstFull}
 use Rattle.demands.proofs.FullNumber.{fits-at-0, none-at-11, answers, fits-exactly}
-use Rattle.demands.proofs.BestAndFull.{best-passed, best-and-full}
+use Rattle.demands.proofs.BestAndFull.{best-passed, best-and-full, reported}
 
 -- both calls on one strip, at one gap
 pub record BothRan (s : Strip) (gap : ℕ) (full_entry full_exit : FullLent) (number : ℕ) (best_entry best_exit : BestLent)
@@ -67,7 +67,7 @@ module _ {s : Strip} {gap : ℕ} {full_entry full_exit : FullLent} {number : ℕ
                 none-exactly = by-11;
                 fits-a-placing = Iff.trans by-0 (fits-exactly s gap full_entry full_exit number ran.full-ran passed);
                 sum-reported = refl;
-                sum_is = (ran.best-ran.where-accepted (best-passed s gap best_entry best_exit answer ran.best-ran zero)).sum-best;
+                sum_is = reported s gap best_entry best_exit answer ran.best-ran zero;
                 both = best-and-full s gap best_entry best_exit answer ran.best-ran zero full_entry full_exit number ran.full-ran passed;
               };
           where-not = λ no. clash refl no;

@@ -8,24 +8,26 @@ use Prim.Native.Nat.{ℕ, ◌-◌, ◌<◌}
 use native.Mathlib.Omega.{arith}
 use lib.ListN.{length, set}
 use Rattle.geometry.specs.Lists.{greatest_of, prefixed, words_of}
-use Rattle.geometry.specs.Mark.{Mark}
+use Rattle.geometry.specs.Mark.{Mark, with_weight, rising}
 use Rattle.geometry.specs.Strip.{Strip, marks_of_lists, marks_of, most_short}
 use Rattle.geometry.specs.Overlap.{apart, free}
 use Rattle.geometry.specs.Placing.{sum_of, best_sum}
+use Rattle.geometry.specs.Refusal.{accepted, first_failure}
+use Rattle.geometry.specs.Entry.{entry}
 use Rattle.geometry.proofs.Accepted.{Accepted, entry-accepted, accepted-entry}
+use Rattle.geometry.proofs.AcceptedWithout.{accepted-without}
 use Rattle.geometry.proofs.OneMark.{best-erased, best-with-0, best-reweighed}
 use Rattle.best.specs.LeftOut.{weight_of_lem}
-use Rattle.demands.specs.OneWeight.{IsMark, AlikeBut, without, weighing, Follows, Lowered, Reports, OneWeight, BoundsMet}
+use Rattle.demands.specs.OneWeight.{IsMark, AlikeBut, without, Follows, Lowered, Reports, OneWeight, BoundsMet}
 use Rattle.demands.proofs.BestAndFull.{good, reported}
-use Rattle.demands.proofs.OneStrip.{Cut, cut, all-but-one, accepted-less}
+use Rattle.demands.proofs.OneStrip.{Cut, cut, weights-but-one}
 
 -- for all lists of marks
 module _ (g : ℕ) (before after : List Mark) (m : Mark) where
-  follows : (w : ℕ) → Follows m.weight w (best_sum g (before ++ m ∷ after)) (best_sum g (before ++ weighing w m ∷ after))
+  follows : (w : ℕ) → Follows m.weight w (best_sum g (before ++ m ∷ after)) (best_sum g (before ++ with_weight w m ∷ after))
   follows w =
-      let n = weighing w m in
-      let there = best-reweighed g m after before n (record { same_place = refl; no_longer = omega arith }) in
-      let back = best-reweighed g n after before m (record { same_place = refl; no_longer = omega arith }) in
+      let there = best-reweighed g m after m.weight w before in
+      let back = best-reweighed g m after w m.weight before in
       record {
         not-lowered = λ h. omega (arith, there);
         not-raised = λ h. omega (arith, back);
@@ -45,8 +47,8 @@ module _ (s : Strip) (k : ℕ) (m : IsMark k s) where
   within : k - 1 < length s.places
   within = omega (arith, m.from-1, m.to-last)
 
-  less-accepted : Accepted most_short s → Accepted most_short (without k s)
-  less-accepted a = accepted-less most_short s (k - 1) within a
+  less-accepted : entry most_short s ≡ accepted → entry most_short (without k s) ≡ accepted
+  less-accepted e = accepted-entry most_short (without k s) (omega arith) (accepted-without most_short s (k - 1) within (entry-accepted most_short s e))
 
   module _ (g : ℕ) (a : Accepted most_short s) where
     abbrev its-cut : Cut s.places s.lengths s.weights (k - 1)
@@ -61,7 +63,7 @@ module _ (s : Strip) (k : ℕ) (m : IsMark k s) where
       its-weights =
           let same = ap length alike.places-alike in
           let one-each : length s.weights ≡ length t.weights = omega (arith, same, a.same-weights, b.same-weights) in
-          all-but-one s.weights t.weights (k - 1) one-each (omega (arith, within, a.same-weights)) alike.other-weights-alike
+          weights-but-one s.weights t.weights (k - 1) one-each (omega (arith, within, a.same-weights)) alike.other-weights-alike
 
       its-marks : marks_of t ≡ marks_of_lists s.places s.lengths (set s.weights (k - 1) (weight_of_lem t.weights k))
       its-marks = rw (alike.places-alike, alike.lengths-alike) (ap (marks_of_lists s.places s.lengths) its-weights)
@@ -89,19 +91,19 @@ one-weight =
       strips-without = λ s g k e m. strip-lowered s k m g (entry-accepted most_short s e);
       calls-without = λ s gap k sum rest call less_call m.
           rw (its-sum s gap sum call, its-sum (without k s) gap rest less_call) (strip-lowered s k m gap (its-strip s gap sum call));
-      without-accepted = λ s k e m. accepted-entry most_short (without k s) (omega arith) (less-accepted s k m (entry-accepted most_short s e));
+      without-accepted = λ s k e m. less-accepted s k m e;
     }
 
 -- strip 11, computed
 pub bounds-met : BoundsMet
-unfolding best_sum greatest_of prefixed words_of marks_of_lists apart free sum_of
+unfolding entry first_failure rising best_sum greatest_of prefixed words_of marks_of_lists apart free sum_of
 bounds-met =
     record {
-      at-first = refl;
-      raised-by-all = refl;
-      raised-by-none = refl;
-      raised-by-some = refl;
-      none-lost = refl;
-      some-lost = refl;
-      all-lost = refl;
+      at-first = record { is_accepted = refl; sum_is = refl };
+      raised-by-all = record { is_accepted = refl; sum_is = refl };
+      raised-by-none = record { is_accepted = refl; sum_is = refl };
+      raised-by-some = record { is_accepted = refl; sum_is = refl };
+      none-lost = record { is_accepted = refl; sum_is = refl };
+      some-lost = record { is_accepted = refl; sum_is = refl };
+      all-lost = record { is_accepted = refl; sum_is = refl };
     }

@@ -1,8 +1,8 @@
 -- Document 02, P8: "Survey offices tune weights and fear that a nudge upsets the strip. To be shown, at one and the same gap, for any two
 -- strips that best accepts, alike but for one mark's weight: their best sums differ by at most the difference of those weights, and do not
 -- move the other way. Taking a mark out, the gap kept, lowers the best sum by no more than its weight and never raises it."
-use Rattle.std.specs.Prelude.{ℕ, ◌-◌, ◌+◌, ◌≤◌, ◌≡◌, List, [], ◌∷◌, ◌++◌, length, set, remove}
-use Rattle.geometry.specs.Mark.{Mark}
+use Rattle.std.specs.Prelude.{ℕ, ◌-◌, ◌+◌, ◌≤◌, ◌≡◌, List, [], ◌∷◌, ◌++◌, length, remove}
+use Rattle.geometry.specs.Mark.{Mark, with_weight}
 use Rattle.geometry.specs.Strip.{Strip, strip, marks_of, most_short}
 use Rattle.geometry.specs.Placing.{best_sum}
 use Rattle.geometry.specs.Refusal.{accepted}
@@ -42,11 +42,7 @@ pub record Lowered (weight sum rest : ℕ) : Type 0 where
   -- "and never raises it"
   pub not-raised : rest ≤ sum
 
--- a mark of the model with another weight
-abbrev pub weighing : ℕ → Mark → Mark
-weighing w m = record { place = m.place; label_length = m.label_length; weight = w }
-
--- some call of the best pass gives 0 and reports this sum for a strip, whatever it is lent and whichever choice it lists
+-- a sum that some call of the best pass reports for a strip, with number 0; what it is lent and which choice it lists does not matter
 pub record Reports (s : Strip) (gap sum : ℕ) : Type 0 where
   pub lent : BestLent
   pub left : BestLent
@@ -60,7 +56,7 @@ pub record Reports (s : Strip) (gap sum : ℕ) : Type 0 where
 pub record OneWeight : Type 0 where
   -- one weight changed
   pub marks-alike : (g : ℕ) (before after : List Mark) (m : Mark) (w : ℕ)
-      → Follows m.weight w (best_sum g (before ++ m ∷ after)) (best_sum g (before ++ weighing w m ∷ after))
+      → Follows m.weight w (best_sum g (before ++ m ∷ after)) (best_sum g (before ++ with_weight w m ∷ after))
   pub strips-alike : (s t : Strip) (g k : ℕ) → entry most_short s ≡ accepted → entry most_short t ≡ accepted → IsMark k s → AlikeBut k s t
       → Follows (weight_of_lem s.weights k) (weight_of_lem t.weights k) (best_sum g (marks_of s)) (best_sum g (marks_of t))
   pub calls-alike : (s t : Strip) (gap k sum new_sum : ℕ) → Reports s gap sum → Reports t gap new_sum → IsMark k s → AlikeBut k s t
@@ -78,18 +74,23 @@ pub record OneWeight : Type 0 where
 abbrev pub strip_11_weighing : List ℕ → Strip
 strip_11_weighing weights = weighted (0 ∷ 1 ∷ 2 ∷ 3 ∷ 10 ∷ []) weights
 
--- and strip 11 itself, whose best sum is 36, with mark 2 left out
+-- and strip 11 itself, which leaves mark 2 out
 abbrev pub strip_11 : Strip
 strip_11 = strip_11_weighing (9 ∷ 2 ∷ 9 ∷ 9 ∷ 9 ∷ [])
 
+-- best accepts a strip, and this is its sum at gap 0
+pub record HasSum (s : Strip) (sum : ℕ) : Type 0 where
+  pub is_accepted : entry most_short s ≡ accepted
+  pub sum_is : best_sum 0 (marks_of s) ≡ sum
+
 pub record BoundsMet : Type 0 where
-  pub at-first : best_sum 0 (marks_of strip_11) ≡ 36
+  pub at-first : HasSum strip_11 36
   -- mark 1 weighs 12 in place of 9, and the sum follows by all of the difference
-  pub raised-by-all : best_sum 0 (marks_of (strip_11_weighing (12 ∷ 2 ∷ 9 ∷ 9 ∷ 9 ∷ []))) ≡ 39
+  pub raised-by-all : HasSum (strip_11_weighing (12 ∷ 2 ∷ 9 ∷ 9 ∷ 9 ∷ [])) 39
   -- mark 2 weighs 9 in place of 2, and the sum follows by nothing; it weighs 12, and the sum follows by 3 of 10
-  pub raised-by-none : best_sum 0 (marks_of (strip_11_weighing (9 ∷ 9 ∷ 9 ∷ 9 ∷ 9 ∷ []))) ≡ 36
-  pub raised-by-some : best_sum 0 (marks_of (strip_11_weighing (9 ∷ 12 ∷ 9 ∷ 9 ∷ 9 ∷ []))) ≡ 39
+  pub raised-by-none : HasSum (strip_11_weighing (9 ∷ 9 ∷ 9 ∷ 9 ∷ 9 ∷ [])) 36
+  pub raised-by-some : HasSum (strip_11_weighing (9 ∷ 12 ∷ 9 ∷ 9 ∷ 9 ∷ [])) 39
   -- mark 2 is taken out, and nothing is lost; or mark 1, and 7 of its 9 are; and then, of the four left, the first, and all of its 2 are
-  pub none-lost : best_sum 0 (marks_of (without 2 strip_11)) ≡ 36
-  pub some-lost : best_sum 0 (marks_of (without 1 strip_11)) ≡ 29
-  pub all-lost : best_sum 0 (marks_of (without 1 (without 1 strip_11))) ≡ 27
+  pub none-lost : HasSum (without 2 strip_11) 36
+  pub some-lost : HasSum (without 1 strip_11) 29
+  pub all-lost : HasSum (without 1 (without 1 strip_11)) 27

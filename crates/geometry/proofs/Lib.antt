@@ -7,6 +7,7 @@ pub mod Every
 pub mod Lent
 pub mod Verdicts
 pub mod Accepted
+pub mod AcceptedWithout
 pub mod OrderBefore
 pub mod SignedOverlap
 pub mod Distances

@@ -11,35 +11,30 @@ use Prim.Native.Nat.{ℕ, ◌+◌, ◌-◌, ◌≤◌}
 use native.Mathlib.Omega.{arith}
 use lib.ListN.{length}
 use Rattle.std.specs.Prelude.{insert, remove}
-use Rattle.geometry.specs.Mark.{Mark}
+use Rattle.geometry.specs.Mark.{Mark, with_weight}
 use Rattle.geometry.specs.Position.{Position, unlabelled, at}
 use Rattle.geometry.specs.Overlap.{overlaps, apart, free}
 use Rattle.geometry.specs.Placing.{sum_of, best_sum}
 use Rattle.geometry.proofs.Split.{both, and-fst, and-snd, clash}
 use Rattle.geometry.proofs.Best.{apart_bare, best-bounds, best-attained}
-use Rattle.geometry.proofs.Shorter.{Shorter, AllShorter, free-shorter}
+use Rattle.geometry.proofs.Shorter.{AllShorter, shorter-itself, free-shorter}
 
--- every label is no longer than itself
-all-shorter : (ms : List Mark) → AllShorter ms ms
-all-shorter [] = tt
-all-shorter (m ∷ ms) = (record { same_place = refl; no_longer = omega arith }, all-shorter ms)
+-- nothing overlaps a mark without a label, and a label is apart from no labels
+not-overlapped : (g : ℕ) (x : Mark) (p : Position) (n : Mark) → not (overlaps g x p n unlabelled) ≡ true
+not-overlapped g x unlabelled n = refl
+not-overlapped g x (at s d) n = refl
+
+apart-none : (g : ℕ) (x : Mark) (p : Position) (ms : List Mark) → apart g x p ms [] ≡ true
+unfolding apart
+apart-none g x p [] = refl
+apart-none g x p (n ∷ ms) = refl
 
 module _ (g : ℕ) (m : Mark) (after : List Mark) where
-  -- nothing overlaps a mark without a label, and a label is apart from no labels
-  not-overlapped : (x : Mark) (p : Position) (n : Mark) → not (overlaps g x p n unlabelled) ≡ true
-  not-overlapped x unlabelled n = refl
-  not-overlapped x (at s d) n = refl
-
-  apart-none : (x : Mark) (p : Position) (ms : List Mark) → apart g x p ms [] ≡ true
-  unfolding apart
-  apart-none x p [] = refl
-  apart-none x p (n ∷ ms) = refl
-
   -- erasing an entry
   apart-erased : (x : Mark) (p : Position) (before : List Mark) (c : List Position) → apart g x p (before ++ m ∷ after) c ≡ true
       → apart g x p (before ++ after) (remove c (length before)) ≡ true
   unfolding apart
-  apart-erased x p [] [] e = apart-none x p after
+  apart-erased x p [] [] e = apart-none g x p after
   apart-erased x p [] (q ∷ c) e = and-snd (not (overlaps g x p m q)) (apart g x p after c) e
   apart-erased x p (n ∷ before) [] e = refl
   apart-erased x p (n ∷ before) (q ∷ c) e =
@@ -62,8 +57,8 @@ module _ (g : ℕ) (m : Mark) (after : List Mark) where
   apart-with-0 : (x : Mark) (p : Position) (before : List Mark) (c : List Position) → apart g x p (before ++ after) c ≡ true
       → apart g x p (before ++ m ∷ after) (insert c (length before) unlabelled) ≡ true
   unfolding apart
-  apart-with-0 x p [] c e = both _ _ (not-overlapped x p m) e
-  apart-with-0 x p (n ∷ before) [] e = both _ _ (not-overlapped x p n) (apart-none x p (before ++ m ∷ after))
+  apart-with-0 x p [] c e = both _ _ (not-overlapped g x p m) e
+  apart-with-0 x p (n ∷ before) [] e = both _ _ (not-overlapped g x p n) (apart-none g x p (before ++ m ∷ after))
   apart-with-0 x p (n ∷ before) (q ∷ c) e =
       let here = not (overlaps g x p n q) in
       let rest = apart g x p (before ++ after) c in
@@ -98,21 +93,6 @@ module _ (g : ℕ) (m : Mark) (after : List Mark) where
   with-0-earns (x ∷ before) (unlabelled ∷ c) = with-0-earns before c
   with-0-earns (x ∷ before) (at s d ∷ c) = omega (arith, with-0-earns before c)
 
-  -- another mark in its place, whose label is no longer
-  one-shorter : (before : List Mark) (n : Mark) → Shorter n m → AllShorter (before ++ n ∷ after) (before ++ m ∷ after)
-  one-shorter [] n h = (h, all-shorter after)
-  one-shorter (x ∷ before) n h = (record { same_place = refl; no_longer = omega arith }, one-shorter before n h)
-
-  reweighed-earns : (before : List Mark) (n : Mark) (c : List Position)
-      → sum_of (before ++ m ∷ after) c ≤ sum_of (before ++ n ∷ after) c + (m.weight - n.weight)
-  unfolding sum_of
-  reweighed-earns [] n [] = omega arith
-  reweighed-earns [] n (unlabelled ∷ c) = omega arith
-  reweighed-earns [] n (at s d ∷ c) = omega arith
-  reweighed-earns (x ∷ before) n [] = omega arith
-  reweighed-earns (x ∷ before) n (unlabelled ∷ c) = reweighed-earns before n c
-  reweighed-earns (x ∷ before) n (at s d ∷ c) = omega (arith, reweighed-earns before n c)
-
   -- Without the mark at most its weight is lost, and nothing is gained.
   pub best-erased : (before : List Mark) → best_sum g (before ++ m ∷ after) ≤ best_sum g (before ++ after) + m.weight
   best-erased before =
@@ -126,10 +106,32 @@ module _ (g : ℕ) (m : Mark) (after : List Mark) where
       let bound = best-bounds g (before ++ m ∷ after) _ (free-with-0 before b.choice b.is_free) in
       omega (arith, with-0-earns before b.choice, bound, b.is-best)
 
-  -- With another weight in its place no more is lost than the weight that is lost: nothing where the other weight is not less.
-  pub best-reweighed : (before : List Mark) (n : Mark) → Shorter n m
-      → best_sum g (before ++ m ∷ after) ≤ best_sum g (before ++ n ∷ after) + (m.weight - n.weight)
-  best-reweighed before n h =
-      let b = best-attained g (before ++ m ∷ after) in
-      let still_free = free-shorter g (before ++ n ∷ after) (before ++ m ∷ after) (one-shorter before n h) b.choice b.is_free in
-      omega (arith, reweighed-earns before n b.choice, best-bounds g (before ++ n ∷ after) b.choice still_free, b.is-best)
+-- labels of the same lengths are no longer
+all-shorter : (ms : List Mark) → AllShorter ms ms
+all-shorter [] = tt
+all-shorter (m ∷ ms) = (shorter-itself m, all-shorter ms)
+
+module _ (g : ℕ) (m : Mark) (after : List Mark) (v w : ℕ) where
+  -- the mark with either weight
+  same-labels : (before : List Mark) → AllShorter (before ++ with_weight w m ∷ after) (before ++ with_weight v m ∷ after)
+  same-labels [] = (record { same_place = refl; no_longer = omega arith }, all-shorter after)
+  same-labels (x ∷ before) = (shorter-itself x, same-labels before)
+
+  reweighed-earns : (before : List Mark) (c : List Position)
+      → sum_of (before ++ with_weight v m ∷ after) c ≤ sum_of (before ++ with_weight w m ∷ after) c + (v - w)
+  unfolding sum_of
+  reweighed-earns [] [] = omega arith
+  reweighed-earns [] (unlabelled ∷ c) = omega arith
+  reweighed-earns [] (at s d ∷ c) = omega arith
+  reweighed-earns (x ∷ before) [] = omega arith
+  reweighed-earns (x ∷ before) (unlabelled ∷ c) = reweighed-earns before c
+  reweighed-earns (x ∷ before) (at s d ∷ c) = omega (arith, reweighed-earns before c)
+
+  -- With the weight w in place of v no more is lost than weight is: nothing where w is not less.
+  pub best-reweighed : (before : List Mark)
+      → best_sum g (before ++ with_weight v m ∷ after) ≤ best_sum g (before ++ with_weight w m ∷ after) + (v - w)
+  best-reweighed before =
+      let b = best-attained g (before ++ with_weight v m ∷ after) in
+      let new_marks = before ++ with_weight w m ∷ after in
+      let still_free = free-shorter g new_marks (before ++ with_weight v m ∷ after) (same-labels before) b.choice b.is_free in
+      omega (arith, reweighed-earns before b.choice, best-bounds g new_marks b.choice still_free, b.is-best)

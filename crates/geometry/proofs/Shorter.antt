@@ -21,6 +21,9 @@ pub record Shorter (short long : Mark) : Type 0 where
   pub same_place : short.place ≡ long.place
   pub no_longer : short.label_length ≤ long.label_length
 
+pub shorter-itself : (m : Mark) → Shorter m m
+shorter-itself m = record { same_place = refl; no_longer = omega arith }
+
 -- the same of all marks of two strips
 abbrev pub AllShorter : List Mark → List Mark → Type 0
 AllShorter [] [] = Unit {0}

@@ -9,6 +9,10 @@ pub record Mark : Type 0 where
   pub label_length : ℕ
   pub weight : ℕ
 
+-- a mark "alike but for" its weight (document 02, P8)
+abbrev pub with_weight : ℕ → Mark → Mark
+with_weight w m = record { place = m.place; label_length = m.label_length; weight = w }
+
 -- −30,000 and 30,000
 abbrev pub least_place : ℤ
 least_place = negsuc 29999
