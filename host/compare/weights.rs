@@ -29,16 +29,25 @@ fn two_sums(strip: &Strip, other: &Strip, gap: u8) -> Result<(u32, u32), String>
     Ok((reported(strip, gap)?, reported(other, gap)?))
 }
 
-// "Their best sums differ by at most the difference of those weights, and do not move the other way." Half of the new weights lie within
-// 9 of the old one.
+// Another weight than this one: the least or the greatest, any, or in half of the cases one within 9 of it.
+fn new_weight(random: &mut Random, old: i32) -> i32 {
+    loop {
+        let new = match random.below(4) {
+            0 => [1, 1_000][random.below(2)],
+            1 => random.between(1, 1_000),
+            _ => (old + random.between(-9, 9)).clamp(1, 1_000),
+        };
+        if new != old {
+            return new;
+        }
+    }
+}
+
+// "Their best sums differ by at most the difference of those weights, and do not move the other way."
 pub fn reweighed(random: &mut Random, call: &Call) -> Result<Moved, String> {
     let at = random.below(call.strip.weights.len());
     let old = call.strip.weights[at] as i32;
-    let new = match random.below(4) {
-        0 => [1, 1_000][random.below(2)],
-        1 => random.between(1, 1_000),
-        _ => (old + random.between(-9, 9)).clamp(1, 1_000),
-    };
+    let new = new_weight(random, old);
     let mut other = call.strip.clone();
     other.weights[at] = new as u16;
     let (sum, new_sum) = two_sums(&call.strip, &other, call.gap)?;

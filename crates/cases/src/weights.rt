@@ -1,5 +1,5 @@
-// One weight of strip 11 changed, and its marks taken out one by one: the sums that demands/specs/OneWeight.antt computes, and those at the least
-// and the greatest weight. Any four of its marks find room, so the best sum is that of all weights but the least.
+// One weight of strip 11 changed, also to the least and the greatest; then marks taken out of it. Any four of its marks find room and all five do not,
+// so the best sum is that of all weights but the least, and that of all weights where a mark is out. demands/specs/OneWeight.antt computes the same.
 use crate::passes;
 use agreed::tally::Tally;
 use geometry::strip::Strip;
@@ -33,6 +33,7 @@ pub fn weights(tally: &mut Tally) {
     sum_is(tally.at(811), [0, 2, 3, 10], [9, 9, 9, 9], 36);
     sum_is(tally.at(812), [1, 2, 3, 10], [2, 9, 9, 9], 29);
     sum_is(tally.at(813), [2, 3, 10], [9, 9, 9], 27);
-    sum_is(tally.at(814), [2], [9], 9);
-    sum_is(tally.at(815), [], [], 0);
+    sum_is(tally.at(814), [3, 10], [9, 9], 18);
+    sum_is(tally.at(815), [10], [9], 9);
+    sum_is(tally.at(816), [], [], 0);
 }

@@ -1,11 +1,12 @@
-// Random strips, on each of which a pass must agree, at a gap of 0 to 8 dots, with a plain search through all choices.
+// Random strips, at gaps of 0 to 8 dots, on each of which a pass must agree with a plain search through all choices, or with itself on a strip
+// that is alike but for one mark.
 use crate::draw::{Draw, Source};
 use crate::strip::Drawn;
 use agreed::output::Output;
 use agreed::tally::Tally;
 use std::fmt::Write;
 
-// How many of the things that the strips of a group show are of each kind.
+// How many of each of up to three kinds a strip shows, or all strips of a group.
 pub type Counts = [u32; 3];
 
 pub fn add(counts: &mut Counts, more: Counts) {
@@ -21,7 +22,7 @@ pub enum Labelled {
     NotEvery,
 }
 
-// What the one kind is called that is counted of these.
+// The kind that is counted of these.
 const LABELLED: [&str; 1] = ["every mark labelled in"];
 
 impl From<Labelled> for Counts {

@@ -48,7 +48,7 @@ fn best_sum(drawn: &Drawn) -> Option<u32> {
     Some(chosen.choice.sum)
 }
 
-// The least and the greatest weight, and those beside this one.
+// The least and the greatest weight, and those beside this one; of a weight at an end one of them is itself, and is passed over.
 fn new_weights(weight: u16) -> [u16; 4] {
     let less = weight.saturating_sub(1).max(1);
     let more = weight.saturating_add(1).min(1000);
@@ -61,9 +61,11 @@ pub fn reweighed(drawn: &Drawn) -> Option<Counts> {
     let mut counts = [0; 3];
     for (k, mark) in drawn.marks().iter().enumerate() {
         for weight in new_weights(mark.weight) {
-            let new_sum = best_sum(&drawn.with_weight(k, weight))?;
-            let moved = Move::along(mark.weight, weight, sum, new_sum)?;
-            random::add(&mut counts, moved.counts());
+            if weight != mark.weight {
+                let new_sum = best_sum(&drawn.with_weight(k, weight))?;
+                let moved = Move::along(mark.weight, weight, sum, new_sum)?;
+                random::add(&mut counts, moved.counts());
+            }
         }
     }
     Some(counts)
