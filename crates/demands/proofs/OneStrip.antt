@@ -25,7 +25,13 @@ unfolding marks_of_lists
 cut-later zs ls ws i z l w c =
     let first = mark_at (strip (z ∷ zs) (l ∷ ls) (w ∷ ws)) 0 in
     let behind : List Mark → List Mark = λ ms. first ∷ ms in
-    record { before = first ∷ c.before; after = c.after; whole = ap behind c.whole; less = ap behind c.less; reweighed = λ v. ap behind (c.reweighed v) }
+    record {
+      before = first ∷ c.before;
+      after = c.after;
+      whole = ap behind c.whole;
+      less = ap behind c.less;
+      reweighed = λ v. ap behind (c.reweighed v);
+    }
 
 pub cut : (zs : List ℤ) (ls ws : List ℕ) (i : ℕ) → length zs ≡ length ls → length zs ≡ length ws → i < length zs → Cut zs ls ws i
 unfolding marks_of_lists
