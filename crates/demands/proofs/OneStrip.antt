@@ -38,7 +38,8 @@ unfolding marks_of_lists
 cut [] ls ws i e f h = absurd (omega arith)
 cut (z ∷ zs) [] ws i e f h = absurd (omega arith)
 cut (z ∷ zs) (l ∷ ls) [] i e f h = absurd (omega arith)
-cut (z ∷ zs) (l ∷ ls) (w ∷ ws) zero e f h = record { before = []; after = marks_of_lists zs ls ws; whole = refl; less = refl; reweighed = λ v. refl }
+cut (z ∷ zs) (l ∷ ls) (w ∷ ws) zero e f h =
+    record { before = []; after = marks_of_lists zs ls ws; whole = refl; less = refl; reweighed = λ v. refl }
 cut (z ∷ zs) (l ∷ ls) (w ∷ ws) (suc i) e f h = cut-later zs ls ws i z l w (cut zs ls ws i (omega arith) (omega arith) (omega arith))
 
 -- a list of weights that is another but for the one at an index
