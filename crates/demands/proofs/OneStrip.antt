@@ -43,7 +43,8 @@ cut (z ∷ zs) (l ∷ ls) (w ∷ ws) zero e f h =
 cut (z ∷ zs) (l ∷ ls) (w ∷ ws) (suc i) e f h = cut-later zs ls ws i z l w (cut zs ls ws i (omega arith) (omega arith) (omega arith))
 
 -- a list of weights that is another but for the one at an index
-pub weights-but-one : (ws vs : List ℕ) (i : ℕ) → length ws ≡ length vs → i < length ws → remove vs i ≡ remove ws i → vs ≡ set ws i (get_or vs i 0)
+pub weights-but-one : (ws vs : List ℕ) (i : ℕ) → length ws ≡ length vs → i < length ws → remove vs i ≡ remove ws i
+    → vs ≡ set ws i (get_or vs i 0)
 weights-but-one [] vs i e h same = absurd (omega arith)
 weights-but-one (w ∷ ws) [] i e h same = absurd (omega arith)
 weights-but-one (w ∷ ws) (v ∷ vs) zero e h same = ap (λ (us : List ℕ). v ∷ us) same
