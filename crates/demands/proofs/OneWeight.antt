@@ -99,11 +99,11 @@ pub bounds-met : BoundsMet
 unfolding entry first_failure rising best_sum greatest_of prefixed words_of marks_of_lists apart free sum_of
 bounds-met =
     record {
-      at-first = record { is_accepted = refl; sum_is = refl };
-      raised-by-all = record { is_accepted = refl; sum_is = refl };
-      raised-by-none = record { is_accepted = refl; sum_is = refl };
-      raised-by-some = record { is_accepted = refl; sum_is = refl };
-      none-lost = record { is_accepted = refl; sum_is = refl };
-      some-lost = record { is_accepted = refl; sum_is = refl };
-      all-lost = record { is_accepted = refl; sum_is = refl };
+      at-first = (refl, refl);
+      raised-by-all = (refl, refl);
+      raised-by-none = (refl, refl);
+      raised-by-some = (refl, refl);
+      none-lost = (refl, refl);
+      some-lost = (refl, refl);
+      all-lost = (refl, refl);
     }

@@ -79,9 +79,8 @@ abbrev pub strip_11 : Strip
 strip_11 = strip_11_weighing (9 ∷ 2 ∷ 9 ∷ 9 ∷ 9 ∷ [])
 
 -- best accepts a strip, and this is its sum at gap 0
-pub record HasSum (s : Strip) (sum : ℕ) : Type 0 where
-  pub is_accepted : entry most_short s ≡ accepted
-  pub sum_is : best_sum 0 (marks_of s) ≡ sum
+abbrev pub HasSum : Strip → ℕ → Type 0
+HasSum s sum = (entry most_short s ≡ accepted) × (best_sum 0 (marks_of s) ≡ sum)
 
 pub record BoundsMet : Type 0 where
   pub at-first : HasSum strip_11 36

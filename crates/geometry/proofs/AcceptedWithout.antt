@@ -1,38 +1,33 @@
 -- A strip that is accepted is accepted without any one of its marks: no value is new, each list is one shorter, and the places still rise,
 -- since a place that is below the next is also below the one behind that.
 use mathlib.Core.Path.{◌≡◌, refl}
-use mathlib.Core.Bool.{Bool, true, false≢true}
+use mathlib.Core.Bool.{Bool, true}
 use mathlib.Core.List.{List, [], ◌∷◌}
 use Prim.Native.Nat.{ℕ, zero, suc, ◌<◌}
 use native.Mathlib.Omega.{arith}
-use lib.IntN.{ℤ, pos, negsuc}
-use lib.Signed.{lt_z}
-use lib.ListN.{length}
-use borrow.Author.Tests.{lt-ltb, ltb-true}
+use lib.IntN.{ℤ}
+use lib.Signed.{lt_z, lt_z_yes}
+use lib.ListN.{length, take, drop}
+use denote.Floats.{is_true}
 use Rattle.std.specs.Prelude.{remove}
 use Rattle.std.specs.List.{list_all}
+use Rattle.std.specs.Cmp.{int_chain}
+use Rattle.std.proofs.lemmas.Float.{T_from_true}
+use Rattle.std.proofs.lemmas.List.Folds.{list_all-append}
 use Rattle.std.proofs.lemmas.List.Edits.{length-remove}
 use Rattle.geometry.specs.Mark.{place_in_range_lem, length_in_range_lem, weight_in_range_lem, rising}
 use Rattle.geometry.specs.Strip.{Strip, strip}
 use Rattle.geometry.proofs.Split.{both, and-fst, and-snd}
+use Rattle.geometry.proofs.Every.{every_take, every_drop}
 use Rattle.geometry.proofs.Accepted.{Accepted}
 
 -- what every element passes is passed by all but one
 all-but-one : {A : Type 0} (p : A → Bool) (xs : List A) (i : ℕ) → list_all p xs ≡ true → list_all p (remove xs i) ≡ true
-all-but-one p [] zero e = refl
-all-but-one p [] (suc i) e = refl
-all-but-one p (x ∷ xs) zero e = and-snd (p x) (list_all p xs) e
-all-but-one p (x ∷ xs) (suc i) e = both (p x) _ (and-fst (p x) (list_all p xs) e) (all-but-one p xs i (and-snd (p x) (list_all p xs) e))
+all-but-one p xs i e = rw (list_all-append p (take i xs) (drop (suc i) xs)) (both _ _ (every_take p i xs e) (every_drop p (suc i) xs e))
 
 -- below the next, and so below the one behind that
 below-both : (a b c : ℤ) → lt_z a b ≡ true → lt_z b c ≡ true → lt_z a c ≡ true
-below-both (pos a) (pos b) (pos c) h k = lt-ltb a c (omega (arith, ltb-true a b h, ltb-true b c k))
-below-both (pos a) (pos b) (negsuc c) h k = k
-below-both (pos a) (negsuc b) c h k = absurd (false≢true h)
-below-both (negsuc a) (pos b) (pos c) h k = refl
-below-both (negsuc a) (pos b) (negsuc c) h k = absurd (false≢true k)
-below-both (negsuc a) (negsuc b) (pos c) h k = refl
-below-both (negsuc a) (negsuc b) (negsuc c) h k = lt-ltb c a (omega (arith, ltb-true b a h, ltb-true c b k))
+below-both a b c h k = is_true _ (int_chain a b c (lt_z_yes (T_from_true _ h)) (lt_z_yes (T_from_true _ k))).lt
 
 rising-without : (zs : List ℤ) (i : ℕ) → rising zs ≡ true → rising (remove zs i) ≡ true
 unfolding rising

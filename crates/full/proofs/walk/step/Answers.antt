@@ -1,7 +1,7 @@
 -- `full::walk::step` meets its contract: the three tests decide the position, and with it which reach becomes the label's.
-use mathlib.Core.Path.{◌≡◌, refl, sym, ◌∙◌}
+use mathlib.Core.Path.{◌≡◌, refl, sym, ◌∙◌, ap}
 use mathlib.Core.Bool.{Bool, true, false, cond}
-use Prim.Native.Nat.{ℕ}
+use Prim.Native.Nat.{ℕ, ◌-◌}
 use native.Mathlib.Omega.{arith}
 use lib.IntN.{ℤ, pos}
 use lib.ListN.{get_or}
@@ -60,9 +60,10 @@ returns c =
     let below-read = fetched c.args.before.below (omega arith) in
     let near-read = reach-back c.reaches-own.result.near own.near-held in
     let far-read = reach-back c.reaches-own.result.far own.far-held in
-    let left_is = c.left_edge-left.ensures.0 in
     let left-read = edge-back c.left_edge-left.result c.left_edge-left.ensures.1 in
     let place-read = fetched c.args.mark.place (omega arith) in
+    let left_is : dot c.left_edge-left.result ≡ dot c.args.mark.place - c.args.mark.length =
+    omega (arith, ap dot place-read, c.left_edge-left.ensures.0) in
     let first-read = fetched (get_or c.args.left_to_other 0 (pos 0)) (omega arith) in
     let second-read = fetched (get_or c.args.left_to_other 1 (pos 0)) (omega arith) in
     let third-read = fetched (get_or c.args.left_to_other 2 (pos 0)) (omega arith) in
