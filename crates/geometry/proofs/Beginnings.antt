@@ -28,6 +28,7 @@ use Rattle.geometry.proofs.Words.{Member}
 use Rattle.geometry.proofs.Kept.{Failing, one-fails}
 use Rattle.geometry.proofs.Best.{free-length}
 use Rattle.geometry.proofs.Layouts.{listed-layout}
+use Rattle.geometry.proofs.Runs.{labelled-drop, placing-take}
 
 -- what a pair that beats another says
 pub record Smaller (p q : Pair) : Type 0 where
@@ -156,20 +157,7 @@ module _ (g : ℕ) (ms ns : List Mark) (rise : Rising ms) (big : Beyond empty_re
       → Begun g ms ns
   begun ps rs = descend (height ps) ps (omega arith) rs
 
--- every entry of the first k and of the others is a label, and of two such lists put together
-labelled-take : (k : ℕ) (ps : List Position) → all_labelled ps ≡ true → all_labelled (take k ps) ≡ true
-unfolding all_labelled
-labelled-take zero ps e = refl
-labelled-take (suc k) [] e = refl
-labelled-take (suc k) (p ∷ ps) e =
-    both (labelled p) (all_labelled (take k ps)) (and-fst (labelled p) (all_labelled ps) e) (labelled-take k ps (and-snd (labelled p) (all_labelled ps) e))
-
-labelled-drop : (k : ℕ) (ps : List Position) → all_labelled ps ≡ true → all_labelled (drop k ps) ≡ true
-unfolding all_labelled
-labelled-drop zero ps e = e
-labelled-drop (suc k) [] e = refl
-labelled-drop (suc k) (p ∷ ps) e = labelled-drop k ps (and-snd (labelled p) (all_labelled ps) e)
-
+-- two lists of labels, put together
 labelled-append : (ps qs : List Position) → all_labelled ps ≡ true → all_labelled qs ≡ true → all_labelled (ps ++ qs) ≡ true
 unfolding all_labelled
 labelled-append [] qs e f = f
@@ -198,11 +186,9 @@ begins-unbeaten g k ms ps rise big short placed =
     rw (take-append-drop k ms, take-append-drop k ps) ((free-iff-go g ms ps rise).0 placed.is_free) in
     let parts = go-split g empty_reach empty_reach (take k ms) (drop k ms) (take k ps) (drop k ps)
     (length-take-le k ps (omega arith) ∙ sym (length-take-le k ms short)) whole in
-    let first-placed : IsPlacing g (take k ms) (take k ps) =
-    record { is_free = (free-iff-go g (take k ms) (take k ps) (rising-take k ms rise)).1 parts.0; labels-all = labelled-take k ps placed.labels-all } in
     let b =
-    begun g (take k ms) (drop k ms) (rising-take k ms rise) (beyond-take empty_reach k ms big) (take k ps) (drop k ps) first-placed
-    (labelled-drop k ps placed.labels-all) parts.1 in
+    begun g (take k ms) (drop k ms) (rising-take k ms rise) (beyond-take empty_reach k ms big) (take k ps) (drop k ps)
+    (placing-take g k ms ps placed) (labelled-drop k ps placed.labels-all) parts.1 in
     let e : take k (b.first ++ b.rest) ≡ b.first =
     take_at b.first b.rest k (free-length g (take k ms) b.first b.first-placed.is_free ∙ length-take-le k ms short) in
     record {

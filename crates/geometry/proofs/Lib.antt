@@ -8,6 +8,7 @@ pub mod Lent
 pub mod Verdicts
 pub mod Accepted
 pub mod AcceptedWithout
+pub mod AcceptedRun
 pub mod OrderBefore
 pub mod SignedOverlap
 pub mod Distances
@@ -25,6 +26,7 @@ pub mod FirstPlacing
 pub mod Shorter
 pub mod OneMark
 pub mod Layouts
+pub mod Runs
 pub mod Beginnings
 pub mod TwoUnbeaten
 pub mod Starred
