@@ -18,7 +18,7 @@ use Rattle.demands.proofs.BestAndFull.{best-chosen, best-and-full}
 use Rattle.demands.proofs.TripsByContracts.{not-read, strip-read, not_written, job-written, job-back, strip-back}
 
 -- the number of the slide pass past its checks
-slide-zero-or-11 : (slides : Bool) (n : ℕ) → n ≡ number_of (slide_verdict accepted slides) → (n ≡ 0) ⊎ (n ≡ refusal_number NoPlacing)
+pub slide-zero-or-11 : (slides : Bool) (n : ℕ) → n ≡ number_of (slide_verdict accepted slides) → (n ≡ 0) ⊎ (n ≡ refusal_number NoPlacing)
 slide-zero-or-11 true n e = inl e
 slide-zero-or-11 false n e = inr e
 

@@ -21,7 +21,7 @@ use Rattle.full.specs.Full.{work_named, FullLent, full_checks, full_verdict, Ful
 use Rattle.demands.specs.Demands.{FirstPlaced}
 
 -- past the checks
-zero-or-11 : (o : Option (List Position)) (n : ℕ) → n ≡ number_of (full_verdict accepted o) → (n ≡ 0) ⊎ (n ≡ refusal_number NoPlacing)
+pub zero-or-11 : (o : Option (List Position)) (n : ℕ) → n ≡ number_of (full_verdict accepted o) → (n ≡ 0) ⊎ (n ≡ refusal_number NoPlacing)
 zero-or-11 none n e = inr e
 zero-or-11 (some ps) n e = inl e
 

@@ -7,5 +7,7 @@ pub mod Demands
 pub mod OrderChanged
 pub mod OneStrip
 pub mod OneWeight
+pub mod SmallestRun
+pub mod Runs
 pub mod Comparison
 pub mod ThereAndBack
