@@ -72,7 +72,7 @@ extern "C" {
 #define STRIP_OUT_OF_RANGE 4    /* reader: a count, a place or a field is out of range */
 #define STRIP_BYTES_LEFT_OVER 5 /* reader: bytes follow the last record */
 #define STRIP_LISTS_UNEQUAL 6   /* passes, largest, writer: mark lists of unequal length; lengths: counts that do not add up */
-#define STRIP_TOO_MANY_MARKS 7  /* over 4,000 marks or texts; slide, best: also over 60 marks, all of them good */
+#define STRIP_TOO_MANY_MARKS 7  /* over 4,000 marks or texts; slide, best: over 60 marks, all of them good */
 #define STRIP_BAD_MARK 8        /* a value out of range, or places not rising; measure, lengths: a text of 0 or over 240 dots */
 #define STRIP_LIST_TOO_SHORT 9  /* a list to be filled is shorter than the count of marks or texts, or the output than the job */
 #define STRIP_WORK_TOO_SHORT 10 /* passes, largest: the work area is shorter than named below */
