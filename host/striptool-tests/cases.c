@@ -44,6 +44,19 @@ void case_marks(const struct trial *trial)
     case_trial = trial;
 }
 
+void try_strips(int strips, void make(struct trial *trial, int number), void compare(const struct trial *trial, uint8_t gap))
+{
+    static struct trial trial;
+    int number;
+    for (number = 1; number <= strips; number++) {
+        int gap = number % (STRIP_GAP_MOST + 1);
+        begin_case("strip %d at gap %d", number, gap);
+        case_marks(&trial);
+        make(&trial, number);
+        compare(&trial, (uint8_t)gap);
+    }
+}
+
 static void say_marks(void)
 {
     size_t i;

@@ -1,4 +1,5 @@
-/* `check`: number, sum and count of each pass are those of the calls. Each is called for a fiftieth of a second, so few strips are tried. */
+/* `check`: number, sum and count of each pass are those of the calls. Each is called for a fiftieth of a second, so few strips are tried.
+ */
 #include "tests.h"
 
 #include <stdio.h>
@@ -44,20 +45,19 @@ static void compare_check(const struct trial *trial, uint8_t gap)
     expect(*text == '\0', "behind it stands %.100s", text);
 }
 
+/* Some with no marks, and some with more than slide and best take. */
+static void make(struct trial *trial, int number)
+{
+    if (number % 4 == 0)
+        random_trial(trial, number % 8 == 0 ? 61 : 0);
+    else
+        crowded_trial(trial, (size_t)between(1, 30));
+}
+
 void try_checks(void)
 {
-    static struct trial trial;
-    int i;
     begin_group("check");
     seed(9);
-    for (i = 1; i <= STRIPS; i++) {
-        begin_case("strip %d at gap %d", i, i % 9);
-        case_marks(&trial);
-        if (i % 4 == 0)
-            random_trial(&trial, i % 8 == 0 ? 61 : 0);
-        else
-            crowded_trial(&trial, (size_t)between(1, 30));
-        compare_check(&trial, (uint8_t)(i % 9));
-    }
+    try_strips(STRIPS, make, compare_check);
     end_group("strips, number, sum and count of each pass are those of the calls");
 }

@@ -282,32 +282,29 @@ static void compare_picture(const char *svg, const struct trial *trial, uint8_t 
     expect(lowest < picture.height, "the picture is %d high, and something is at y %d", picture.height, lowest);
 }
 
-static void random_picture(struct trial *trial, int i)
+static void make_picture(struct trial *trial, int number)
 {
-    if (i % 5 == 0)
+    if (number % 5 == 0)
         narrow_trial(trial);
-    else if (i % 5 == 1)
+    else if (number % 5 == 1)
         crowded_trial(trial, (size_t)between(1, STRIP_MARKS_SLIDE));
     else
-        random_trial(trial, (size_t)(i <= LONG_ONES ? between(61, STRIP_MARKS_JOB) : between(0, 25)));
+        random_trial(trial, (size_t)(number <= LONG_ONES ? between(61, STRIP_MARKS_JOB) : between(0, 25)));
+}
+
+static void compare_drawn(const struct trial *trial, uint8_t gap)
+{
+    const struct outcome *outcome = run_on("draw", trial, gap);
+    if (expect_done(outcome))
+        compare_picture(outcome->out, trial, gap);
 }
 
 void try_pictures(void)
 {
-    static struct trial trial;
     char what[300];
-    int i;
     begin_group("draw");
     seed(5);
-    for (i = 1; i <= STRIPS; i++) {
-        const struct outcome *outcome;
-        begin_case("strip %d at gap %d", i, i % 9);
-        case_marks(&trial);
-        random_picture(&trial, i);
-        outcome = run_on("draw", &trial, (uint8_t)(i % 9));
-        if (expect_done(outcome))
-            compare_picture(outcome->out, &trial, (uint8_t)(i % 9));
-    }
+    try_strips(STRIPS, make_picture, compare_drawn);
     snprintf(what, sizeof what, "strips, as the calls say: %lu rows, %lu parts of labels cut, %lu touching labels, %lu gaps", rows_seen,
              parts_cut, touches_seen, gaps_seen);
     expect(parts_cut > 1000 && touches_seen > 300 && gaps_seen > 1000, "few labels are cut, touch or have gaps, so little is tried");
@@ -361,23 +358,27 @@ static bool has_parts(const struct row_seen *row)
     return false;
 }
 
-/* A row that has no mark and no part of a label is not drawn. */
-void try_rows(void)
+static void make_few(struct trial *trial, int number)
+{
+    (void)number;
+    crowded_trial(trial, (size_t)between(1, 10));
+}
+
+static void expect_full_rows(const struct trial *trial, uint8_t gap)
 {
     static struct picture_seen picture;
     static struct row_seen row;
-    static struct trial trial;
-    int i;
+    begin_svg(run_on("draw", trial, gap)->out, &picture);
+    while (next_svg_row(&picture, &row))
+        expect(has_parts(&row), "a row that begins at %d has no mark and no part of a label", row.ticks > 0 ? row.tick[0].dot : 0);
+}
+
+/* A row that has no mark and no part of a label is not drawn. */
+void try_rows(void)
+{
     begin_group("draw, rows");
     seed(11);
-    for (i = 1; i <= STRIPS_OF_ROWS; i++) {
-        begin_case("strip %d at gap %d", i, i % 9);
-        case_marks(&trial);
-        crowded_trial(&trial, (size_t)between(1, 10));
-        begin_svg(run_on("draw", &trial, (uint8_t)(i % 9))->out, &picture);
-        while (next_svg_row(&picture, &row))
-            expect(has_parts(&row), "a row that begins at %d has no mark and no part of a label", row.ticks > 0 ? row.tick[0].dot : 0);
-    }
+    try_strips(STRIPS_OF_ROWS, make_few, expect_full_rows);
     end_group("strips, each row with a mark or a part of a label");
 }
 

@@ -42,41 +42,41 @@ static void compare_sketch(const struct trial *trial, uint8_t gap)
     expect(*text == '\0', "behind the drawing stands %.200s", text);
 }
 
+static void make_narrow(struct trial *trial, int number)
+{
+    (void)number;
+    narrow_trial(trial);
+}
+
+static void compare_one_row(const struct trial *trial, uint8_t gap)
+{
+    struct sketched before = sketched;
+    compare_sketch(trial, gap);
+    expect(sketched.rows - before.rows == (trial->count > 0) && sketched.cut == before.cut, "%lu rows", sketched.rows - before.rows);
+}
+
 static void try_one_row(void)
 {
-    static struct trial trial;
-    unsigned long rows, cut;
-    int i;
     begin_group("draw --text, one row");
     seed(4);
-    for (i = 1; i <= ONE_ROW; i++) {
-        begin_case("strip %d at gap %d", i, i % 9);
-        case_marks(&trial);
-        narrow_trial(&trial);
-        rows = sketched.rows;
-        cut = sketched.cut;
-        compare_sketch(&trial, (uint8_t)(i % 9));
-        expect(sketched.rows - rows == (trial.count > 0) && sketched.cut == cut, "%lu rows", sketched.rows - rows);
-    }
+    try_strips(ONE_ROW, make_narrow, compare_one_row);
     end_group("strips, read back: marks, sides and ends of each pass's labels, and their numbers, are those of the calls");
+}
+
+static void make_wide(struct trial *trial, int number)
+{
+    random_trial(trial, (size_t)(number <= LONG_ONES ? between(61, STRIP_MARKS_JOB) : between(1, STRIP_MARKS_SLIDE)));
 }
 
 static void try_many_rows(void)
 {
-    static struct trial trial;
-    unsigned long rows = sketched.rows, cut = sketched.cut;
+    struct sketched before = sketched;
     char what[200];
-    int i;
     begin_group("draw --text, many rows");
-    for (i = 1; i <= MANY_ROWS; i++) {
-        begin_case("strip %d at gap %d", i, i % 9);
-        case_marks(&trial);
-        random_trial(&trial, (size_t)(i <= LONG_ONES ? between(61, STRIP_MARKS_JOB) : between(1, STRIP_MARKS_SLIDE)));
-        compare_sketch(&trial, (uint8_t)(i % 9));
-    }
+    try_strips(MANY_ROWS, make_wide, compare_sketch);
     snprintf(what, sizeof what, "strips, read back as if they were not wrapped: %lu rows, %lu of them with a label from the row before",
-             sketched.rows - rows, sketched.cut - cut);
-    expect(sketched.cut - cut > 1000, "few rows cut labels, so little is tried");
+             sketched.rows - before.rows, sketched.cut - before.cut);
+    expect(sketched.cut - before.cut > 1000, "few rows cut labels, so little is tried");
     end_group(what);
 }
 

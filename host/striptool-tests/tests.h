@@ -43,6 +43,8 @@ void begin_group(const char *name);
 /* Says which case this is, if it turns out to differ. */
 void begin_case(const char *format, ...);
 void case_marks(const struct trial *trial);
+/* So many strips, each made for its number and compared at a gap, the nine gaps in turn. */
+void try_strips(int strips, void make(struct trial *trial, int number), void compare(const struct trial *trial, uint8_t gap));
 /* False if it does not hold, of which the first few of a group get a line. */
 bool expect(bool holds, const char *format, ...);
 /* One line for the group: how many cases, of what. */

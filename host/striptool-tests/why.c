@@ -13,7 +13,7 @@
 /* ---- the definition, tried on every run */
 
 struct run {
-    bool none;
+    bool fails;
     size_t first, last;
 };
 
@@ -40,15 +40,15 @@ static struct run search(ask *pass, const struct trial *trial, uint8_t gap)
     struct run run = {false, 0, 0};
     size_t i, j;
     ask_all_runs(pass, trial, gap);
-    for (j = 1; j <= trial->count && !run.none; j++)
+    for (j = 1; j <= trial->count && !run.fails; j++)
         for (i = 1; i <= j; i++)
             if (!fits[i][j] && fits[i + 1][j] && fits[i][j - 1]) {
-                expect(!run.none, "two runs end at mark %zu", j);
-                run.none = true;
+                expect(!run.fails, "two runs end at mark %zu", j);
+                run.fails = true;
                 run.first = i;
                 run.last = j;
             }
-    expect(run.none == (trial->count > 0 && !fits[1][trial->count]), "a strip without such a run does not fit");
+    expect(run.fails == (trial->count > 0 && !fits[1][trial->count]), "a strip without such a run does not fit");
     return run;
 }
 
@@ -85,8 +85,8 @@ static size_t compare_found(pass *tried, const struct trial *trial, uint8_t gap,
     counted = 0;
     found = smallest_run(tried, marks, gap);
     expect(found.calls == counted, "it says %zu calls, and makes %zu", found.calls, counted);
-    expect(found.fails == run.none, "smallest_run says %s", found.fails ? "none" : "fits");
-    if (found.fails && run.none)
+    expect(found.fails == run.fails, "smallest_run says %s", found.fails ? "none" : "fits");
+    if (found.fails && run.fails)
         expect(found.run.first == run.first && found.run.first + found.run.count - 1 == run.last,
                "smallest_run gives %zu to %zu, not %zu to %zu", found.run.first, found.run.first + found.run.count - 1, run.first,
                run.last);
@@ -148,7 +148,7 @@ static void compare_drawing(const char **text, ask *pass, const struct trial *tr
 static void compare_section(const char **text, ask *pass, bool slides, const struct trial *trial, uint8_t gap, struct run run, size_t calls)
 {
     char expected[200];
-    if (!run.none) {
+    if (!run.fails) {
         snprintf(expected, sizeof expected, "all marks can be labelled at gap %d%s", gap, slides ? " if labels slide" : "");
         expect_line(text, expected);
         return;
@@ -181,27 +181,26 @@ static void try_strip(const struct trial *trial, uint8_t gap)
     size_t calls_of_full = compare_found(counted_full, trial, gap, of_full),
            calls_of_slide = compare_found(counted_slide, trial, gap, of_slide);
     const char *text = why_of(trial, gap);
-    none_of_full += of_full.none;
-    none_of_slide += of_slide.none;
+    none_of_full += of_full.fails;
+    none_of_slide += of_slide.fails;
     compare_section(&text, ask_full, false, trial, gap, of_full, calls_of_full);
     expect_line(&text, "");
     compare_section(&text, ask_slide, true, trial, gap, of_slide, calls_of_slide);
     expect(*text == '\0', "behind it stands %.100s", text);
 }
 
+static void make_crowded(struct trial *trial, int number)
+{
+    (void)number;
+    crowded_trial(trial, (size_t)(one_in(10) ? between(3, MARKS_SEARCHED) : between(3, 14)));
+}
+
 void try_why(void)
 {
-    static struct trial trial;
     char what[200];
-    int i;
     begin_group("why");
     seed(6);
-    for (i = 1; i <= STRIPS; i++) {
-        begin_case("strip %d at gap %d", i, i % 9);
-        case_marks(&trial);
-        crowded_trial(&trial, (size_t)(one_in(10) ? between(3, MARKS_SEARCHED) : between(3, 14)));
-        try_strip(&trial, (uint8_t)(i % 9));
-    }
+    try_strips(STRIPS, make_crowded, try_strip);
     snprintf(what, sizeof what, "strips of 3 to 40 marks, all their runs tried: full gives 11 for %lu, slide for %lu", none_of_full,
              none_of_slide);
     expect(none_of_full > STRIPS / 2 && none_of_slide > STRIPS / 3, "too few strips that do not fit, so little is tried");

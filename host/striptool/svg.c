@@ -102,9 +102,10 @@ static void draw_words(struct sheet *sheet)
 
 void draw_svg(FILE *out, const struct picture *picture)
 {
-    struct sheet sheet = {out, picture, {0, 0}, scale_of(picture), 0, MARGIN};
-    int step = round_step((TICK_WIDTH + sheet.scale - 1) / sheet.scale);
-    struct rows rows = rows_of(picture, ROW_WIDTH / sheet.scale, step, false);
+    int scale = scale_of(picture);
+    struct sheet sheet = {out, picture, {0, 0}, scale, closest(picture->marks) * scale, MARGIN};
+    int step = round_step((TICK_WIDTH + scale - 1) / scale);
+    struct rows rows = rows_of(picture, ROW_WIDTH / scale, step, false);
     struct size size = size_of_rows(sheet, rows);
     int width = greatest(WORDS_WIDTH, ROW_LEFT + size.width + MARGIN);
     int height = 2 * MARGIN + (int)(picture->lines + 2) * LINE_HEIGHT + size.height;
@@ -113,7 +114,6 @@ void draw_svg(FILE *out, const struct picture *picture)
     fprintf(out, " font-family=\"monospace\" font-size=\"%d\">\n<title>%s</title>\n", NUMBER_SIZE, picture->caption[0]);
     fputs("<style>text { fill: #000; stroke: none }</style>\n", out);
     fprintf(out, "<rect width=\"%d\" height=\"%d\" fill=\"#fff\"/>\n", width, height);
-    sheet.apart = closest(picture->marks) * sheet.scale;
     draw_words(&sheet);
     while (next_row(picture, &rows, &sheet.row))
         draw_row(&sheet, step);
