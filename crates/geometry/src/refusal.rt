@@ -17,6 +17,7 @@ pub enum Refusal {
     NoPlacing = 11,
     GapTooWide = 12,
     StrayByte = 13,
+    NotFinite = 15,
 }
 
 impl From<Refusal> for u8 {
