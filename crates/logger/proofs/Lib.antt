@@ -1,0 +1,15 @@
+pub mod Exacts
+pub mod Floors
+pub mod Patterns
+pub mod Units
+pub mod Eightfold
+pub mod Reach
+pub mod Shifts
+pub mod FloorByBits
+pub mod CutCode
+pub mod Ranges
+pub mod Products
+pub mod Places
+pub mod Contract
+pub mod LosesNothing
+pub mod PlaceExample

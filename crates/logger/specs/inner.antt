@@ -1,0 +1,3 @@
+-- Definitions that no public contract names.
+pub mod Pattern
+pub mod Dots
