@@ -11,11 +11,16 @@
  * Lengths may also be counted in letter cells, 1 to 240, all of one width; strip_largest finds the greatest width, 1 to 30 dots, at which
  * the labels fit.
  *
+ * A place may come as a logger stored it, as an IEEE 754 binary32 number of dots, or of millimetres with 8 dots each.
+ *
  * Every list is a pointer and then its count of elements. What the caller owes, and no call can test:
  *   - no pointer is NULL, also where the count is 0, and each is aligned for its element type;
  *   - each pointer has at least its count of elements behind it, all of them initialised;
- *   - no two of the buffers of one call overlap, out values included.
- * Any contents of the buffers are fine, and any counts: each call tests what it needs and refuses the rest by number.
+ *   - no two of the buffers of one call overlap, out values included;
+ *   - for strip_place_of_dots and strip_place_of_millimetres the control bits of MXCSR are as the convention named below has them at the
+ *     start of a program: no exception is trapped, and no number is taken for 0 because it is small (a program linked with -ffast-math
+ *     may have that changed).
+ * Any contents of the buffers are fine, any counts and any numbers: each call tests what it needs and refuses the rest by number.
  *
  * Every call returns 0 or the number of the first check that is not passed, and sets its out values at every return: to 0 at every
  * refusal. Except for the work area at refusal 11, a refusal changes no list. Elements that a call is not said to write are
@@ -26,13 +31,15 @@
  *   - writer: 6, 7 over 4,000 marks, 8, 9;
  *   - reader: 1 and 4 for the header, 9, then 1 to 4 record by record, and at the end 5;
  *   - measure: 13 over the whole text, 8; beginning: 13 over the whole text;
- *   - lengths: 6, 7, 13 over all texts, 8 over all texts, 9.
+ *   - lengths: 6, 7, 13 over all texts, 8 over all texts, 9;
+ *   - place of dots, of millimetres: 15, 8.
  * So past 6 and 12 slide and best refuse a strip of 61 to 4,000 marks by 8 if one of them is bad, and by 7 if all are good.
  *
  * The archive, target/staticlib/libexports.a, is an `ar` archive of one ELF object for x86-64 with the System V calling
- * convention: some 30,600 bytes, of them 20,500 code and constants, and no variables. It leaves one symbol undefined, memset. It
- * links into position-independent and into static programs. It uses SSE2 registers, and the 128 bytes below the stack pointer
- * that the convention keeps free: an interrupt on the same stack must leave both as they were.
+ * convention: some 32,100 bytes, of them 21,000 code and constants, and no variables. It leaves one symbol undefined, memset. It
+ * links into position-independent and into static programs. Its instructions are those of the level x86-64-v2, with SSSE3 and SSE4.1.
+ * It uses SSE registers, and the 128 bytes below the stack pointer that the convention keeps free: an interrupt on the same stack must
+ * leave both as they were.
  *
  * Steps for n marks, at most, as the loops go (read off the code, not proved; a step is a few comparisons):
  *   - every pass and the writer: 4n for the checks on entry, and none of them over 4,000 marks;
@@ -42,7 +49,8 @@
  *   - best: 2n(n + 1)(2n + 1)/3 cells with five offers each (295,240 cells at 60 marks), 2n(n + 1) offers that the cells of a row
  *     share, 2n + 2 to prepare, 8n to walk, n(n + 1)/2 to list the left-out marks, and 30,000 to clear the work area twice;
  *   - reader and writer: 2n records, since each is looked at twice;
- *   - measure, beginning and lengths: 2, 2 and 3 looks at each byte, lengths also 4 at each count.
+ *   - measure, beginning and lengths: 2, 2 and 3 looks at each byte, lengths also 4 at each count;
+ *   - place of dots, of millimetres: 4, without a loop.
  */
 #ifndef STRIP_H
 #define STRIP_H
@@ -61,8 +69,9 @@ extern "C" {
  *   4: strip_slide and strip_best refuse 8 where they refused 7: past 6 and 12, with 61 to 4,000 marks, at least one of them bad.
  *   5: strip_measure, strip_beginning and strip_lengths are new, and refuse 13; the other calls answer as in version 4.
  *   6: strip_largest is new; the other calls answer as in version 5. strip_full takes up to 256 bytes of stack, in version 5 up to 128.
+ *   7: strip_place_of_dots and strip_place_of_millimetres are new, and refuse 15; the other calls answer as in version 6.
  */
-#define STRIP_VERSION 6
+#define STRIP_VERSION 7
 
 /* What a call returns. */
 #define STRIP_ACCEPTED 0
@@ -79,6 +88,7 @@ extern "C" {
 #define STRIP_NO_PLACING 11     /* full, slide: not every mark can have a label; largest: not even with cells of 1 dot */
 #define STRIP_GAP_TOO_WIDE 12   /* passes, largest: the gap is over 8; tested right after 6 */
 #define STRIP_STRAY_BYTE 13     /* measure, beginning, lengths: a byte outside 32 to 126 */
+#define STRIP_NOT_FINITE 15     /* place of dots, of millimetres: the value is a NaN or infinite */
 
 /* The ranges of a mark. */
 #define STRIP_PLACE_LEAST (-30000)
@@ -87,6 +97,9 @@ extern "C" {
 #define STRIP_LENGTH_MOST 240
 #define STRIP_WEIGHT_LEAST 1
 #define STRIP_WEIGHT_MOST 1000
+
+/* How many dots strip_place_of_millimetres counts for one millimetre. */
+#define STRIP_DOTS_A_MILLIMETRE 8
 
 /* The gap, in dots, that a pass keeps between labels of one side. */
 #define STRIP_GAP_LEAST 0
@@ -129,6 +142,7 @@ extern "C" {
 #define STRIP_STACK_MEASURE 128
 #define STRIP_STACK_BEGINNING 128
 #define STRIP_STACK_LENGTHS 256
+#define STRIP_STACK_PLACES 128
 
 /* The positions of a label, and the sides of a sliding one. */
 #define STRIP_UNLABELLED 0
@@ -240,6 +254,18 @@ uint8_t strip_beginning(const uint8_t *text, size_t text_len, size_t *count);
  */
 uint8_t strip_lengths(const uint8_t *texts, size_t texts_len, const uint16_t *counts, size_t counts_len, uint8_t *lengths,
                       size_t lengths_len);
+
+/*
+ * The place of a mark from what a logger stored: a number of dots, or one of millimetres. Any value will do, a NaN too.
+ *
+ * 0: *place is the largest whole number that is not above the exact number of dots, which is value, or STRIP_DOTS_A_MILLIMETRE times
+ * value: that number is at least *place and less than *place + 1. Just below 0 the place is -1; that of -0 is 0.
+ * 15: value is a NaN or infinite. 8: the place is out of range. At both *place is 0. It is the place that counts: 30,000.998 dots have
+ * the place 30,000, and -30,000.002 dots are refused.
+ * A finite value in millimetres gives what eight times the value gives in dots, wherever that is finite, and 8 where it is not.
+ */
+uint8_t strip_place_of_dots(float value, int16_t *place);
+uint8_t strip_place_of_millimetres(float value, int16_t *place);
 
 #ifdef __cplusplus
 }

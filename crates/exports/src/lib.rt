@@ -7,4 +7,5 @@ mod handed;
 mod jobs;
 mod letters;
 mod passes;
+mod places;
 mod texts;
