@@ -1,6 +1,6 @@
 /*
- * The stack that each call of strip.h takes: the most of many calls, on strips, jobs and texts of all sizes, accepted and refused,
- * from a fixed generator. Exit status 1 if it is more than strip.h names.
+ * The stack that each call of strip.h takes: the most of many calls, on strips, jobs, texts and stored numbers of all sizes, accepted and
+ * refused, from a fixed generator. Exit status 1 if it is more than strip.h names.
  *
  * A call runs on a stack of its own that was painted before. Counted are the bytes below the call's return address down to the
  * lowest one that lost its paint: the frame of the call and of all that it calls, memset included. The return address and the
@@ -75,6 +75,8 @@ static uint8_t texts[MARKS_MOST * TEXT_MOST];
 static uint16_t counts[MARKS_MOST];
 static size_t texts_len;
 
+static float value;
+
 static uint8_t bytes[STRIP_JOB_MOST];
 static int16_t edges[MARKS_MOST];
 static uint16_t words[MARKS_MOST];
@@ -86,6 +88,7 @@ static uint32_t work_best[STRIP_WORK_BEST];
 static size_t missing;
 
 static uint8_t number, length, width;
+static int16_t place;
 static uint32_t sum;
 static size_t count;
 
@@ -105,6 +108,8 @@ static __typeof__(strip_write) *volatile write_job;
 static __typeof__(strip_measure) *volatile measure_text;
 static __typeof__(strip_beginning) *volatile begin_text;
 static __typeof__(strip_lengths) *volatile measure_texts;
+static __typeof__(strip_place_of_dots) *volatile place_dots;
+static __typeof__(strip_place_of_millimetres) *volatile place_millimetres;
 
 /* The empty function looks at no argument, so it may stand for every call. */
 #define EMPTY_FOR(call) ((__typeof__(call) *)empty)
@@ -120,6 +125,8 @@ static void call_the_calls(int calls)
     measure_text = calls ? strip_measure : EMPTY_FOR(strip_measure);
     begin_text = calls ? strip_beginning : EMPTY_FOR(strip_beginning);
     measure_texts = calls ? strip_lengths : EMPTY_FOR(strip_lengths);
+    place_dots = calls ? strip_place_of_dots : EMPTY_FOR(strip_place_of_dots);
+    place_millimetres = calls ? strip_place_of_millimetres : EMPTY_FOR(strip_place_of_millimetres);
 }
 
 static void at_full(void)
@@ -172,7 +179,17 @@ static void at_lengths(void)
     number = measure_texts(texts, texts_len, counts, marks, bytes, answer_len);
 }
 
-/* ---- strips, jobs and texts */
+static void at_dots(void)
+{
+    number = place_dots(value, &place);
+}
+
+static void at_millimetres(void)
+{
+    number = place_millimetres(value, &place);
+}
+
+/* ---- strips, jobs, texts and stored numbers */
 
 static uint64_t state;
 
@@ -269,6 +286,16 @@ static void draw_texts(void)
         texts_len++;
 }
 
+/* Any bits, or in half of the cases sixteenths, up to 34,375 on both sides of 0. */
+static void draw_value(void)
+{
+    uint32_t pattern = below((size_t)1 << 32);
+
+    memcpy(&value, &pattern, sizeof value);
+    if (below(2) == 0)
+        value = (float)((int)below(1100000) - 550000) / 16;
+}
+
 /* ---- the table */
 
 static int measure(const char *name, void (*at)(void), size_t most, size_t named)
@@ -287,6 +314,7 @@ static int measure(const char *name, void (*at)(void), size_t most, size_t named
         draw_fault();
         draw_job();
         draw_texts();
+        draw_value();
         taken = touched() - caller;
         worst = worst < taken ? taken : worst;
         accepted += number == STRIP_ACCEPTED;
@@ -310,6 +338,8 @@ int main(void)
     more |= measure("measure", at_measure, TEXT_MOST, STRIP_STACK_MEASURE);
     more |= measure("beginning", at_beginning, TEXT_MOST, STRIP_STACK_BEGINNING);
     more |= measure("lengths", at_lengths, STRIP_TEXTS_MOST, STRIP_STACK_LENGTHS);
+    more |= measure("place of dots", at_dots, 0, STRIP_STACK_PLACES);
+    more |= measure("place of millimetres", at_millimetres, 0, STRIP_STACK_PLACES);
     if (more)
         printf("a call takes more stack than strip.h names\n");
     return more;

@@ -1,7 +1,7 @@
 // What a call is timed on, everything that it may be lent, and what it hands back beside that.
 use crate::strips::Strip;
 
-// The mark lists of a strip; its job, or texts in one byte list; the byte counts of the texts.
+// The mark lists of a strip; its job, or texts in one byte list; the byte counts of the texts; numbers that a logger stored.
 #[derive(Default)]
 pub struct Input {
     pub places: Vec<i16>,
@@ -9,6 +9,7 @@ pub struct Input {
     pub weights: Vec<u16>,
     pub bytes: Vec<u8>,
     pub counts: Vec<u16>,
+    pub stored: Vec<f32>,
 }
 
 impl Input {
@@ -30,6 +31,7 @@ pub struct Lists {
     pub sum: u32,
     pub count: usize,
     pub width: u8,
+    pub places: Vec<i16>,
 }
 
 impl Lists {
@@ -46,6 +48,7 @@ impl Lists {
             sum: 0,
             count: 0,
             width: 0,
+            places: vec![0; input.stored.len()],
         }
     }
 }

@@ -1,6 +1,6 @@
 // Times each exported call against the same algorithm in plain Rust, and built with `--cfg compared` against the same call of an earlier
-// archive too, on the same strips, jobs and texts in the same run, and prints the ratios and how the full pass grows from 2,000 to 4,000
-// marks.
+// archive too, on the same strips, jobs, texts and stored numbers in the same run, and prints the ratios and how the full pass grows from
+// 2,000 to 4,000 marks.
 #[path = "../shared/calls.rs"]
 mod calls;
 #[path = "../shared/random.rs"]
@@ -127,6 +127,16 @@ fn texts(sets: usize, letters: Range<usize>) -> Vec<Input> {
     (0..sets).map(set).collect()
 }
 
+// Sets of 4,000 numbers that have places, up to so many in size, with three digits behind the point.
+fn stored(sets: usize, most: i32) -> Vec<Input> {
+    let set = |seed: usize| {
+        let mut random = Random::new(seed as u64 + 1);
+        let numbers = (0..4_000).map(|_| random.between(-1_000 * most, 1_000 * most) as f32 / 1_000.0);
+        Input { stored: numbers.collect(), ..Input::default() }
+    };
+    (0..sets).map(set).collect()
+}
+
 // The calls of one archive, as they are timed, with a gap if its passes take one.
 macro_rules! runs {
     ($calls:path $(, $gap:expr)?) => {
@@ -207,10 +217,39 @@ macro_rules! runs_of_texts {
     };
 }
 
+// Makes a call on each number, with a place for it; the greatest of what they give.
+fn each_number(input: &Input, lists: &mut Lists, call: impl Fn(f32, &mut i16) -> u8) -> u8 {
+    let mut most = 0;
+    for (value, place) in input.stored.iter().zip(&mut lists.places) {
+        most = most.max(call(*value, place));
+    }
+    most
+}
+
+// The calls on stored numbers of one archive.
+macro_rules! runs_of_numbers {
+    ($calls:path) => {
+        pub mod of_numbers {
+            use crate::each_number;
+            use crate::lists::{Input, Lists};
+            use $calls as calls;
+
+            pub fn dots(i: &Input, l: &mut Lists) {
+                l.number = each_number(i, l, calls::place_of_dots);
+            }
+
+            pub fn millimetres(i: &Input, l: &mut Lists) {
+                l.number = each_number(i, l, calls::place_of_millimetres);
+            }
+        }
+    };
+}
+
 mod exported {
     runs!(crate::calls, crate::gap());
     run_of_cells!();
     runs_of_texts!(crate::calls);
+    runs_of_numbers!(crate::calls);
 }
 
 #[cfg(compared)]
@@ -223,6 +262,8 @@ mod earlier {
     run_of_cells!();
     #[cfg(not(without_texts))]
     runs_of_texts!(::before);
+    #[cfg(not(without_places))]
+    runs_of_numbers!(::before);
 }
 
 fn plain_full(i: &Input, l: &mut Lists) {
@@ -272,39 +313,23 @@ fn plain_beginning(i: &Input, l: &mut Lists) {
     });
 }
 
-// A call and what it is timed against; the same call of the earlier archive where there is one.
-macro_rules! sides {
-    ($call:ident, $plain:ident) => {
-        Sides {
-            exported: exported::$call,
-            plain: $plain,
-            #[cfg(compared)]
-            before: Some(earlier::$call),
-            #[cfg(not(compared))]
-            before: None,
-        }
-    };
+fn plain_dots(i: &Input, l: &mut Lists) {
+    l.number = each_number(i, l, plain::place::of_dots);
 }
 
-// The same for the search for the largest letters.
-const LARGEST: Sides = Sides {
-    exported: exported::largest,
-    plain: plain_largest,
-    #[cfg(all(compared, not(without_cells)))]
-    before: Some(earlier::largest),
-    #[cfg(not(all(compared, not(without_cells))))]
-    before: None,
-};
+fn plain_millimetres(i: &Input, l: &mut Lists) {
+    l.number = each_number(i, l, plain::place::of_millimetres);
+}
 
-// The same for a call on texts.
-macro_rules! sides_of_texts {
-    ($call:ident, $plain:ident) => {
+// A call and what it is timed against; the same call of the earlier archive where there is one and its version is not without the call.
+macro_rules! sides {
+    ($($call:ident)::+, $plain:ident $(, $without:ident)?) => {
         Sides {
-            exported: exported::of_texts::$call,
+            exported: exported::$($call)::+,
             plain: $plain,
-            #[cfg(all(compared, not(without_texts)))]
-            before: Some(earlier::of_texts::$call),
-            #[cfg(not(all(compared, not(without_texts))))]
+            #[cfg(all(compared $(, not($without))?))]
+            before: Some(earlier::$($call)::+),
+            #[cfg(not(all(compared $(, not($without))?)))]
             before: None,
         }
     };
@@ -316,9 +341,14 @@ const BEST: Sides = sides!(best, plain_best);
 const READ: Sides = sides!(read, plain_read);
 const WRITE: Sides = sides!(write, plain_write);
 
-const LENGTHS: Sides = sides_of_texts!(lengths, plain_lengths);
-const MEASURE: Sides = sides_of_texts!(measure, plain_measure);
-const BEGINNING: Sides = sides_of_texts!(beginning, plain_beginning);
+const LARGEST: Sides = sides!(largest, plain_largest, without_cells);
+
+const LENGTHS: Sides = sides!(of_texts::lengths, plain_lengths, without_texts);
+const MEASURE: Sides = sides!(of_texts::measure, plain_measure, without_texts);
+const BEGINNING: Sides = sides!(of_texts::beginning, plain_beginning, without_texts);
+
+const DOTS: Sides = sides!(of_numbers::dots, plain_dots, without_places);
+const MILLIMETRES: Sides = sides!(of_numbers::millimetres, plain_millimetres, without_places);
 
 fn print_table(rows: &[Row]) {
     let compared = rows.iter().any(|row| row.before.is_some());
@@ -343,6 +373,7 @@ fn main() {
     let (letters, crammed) = (with_jobs(&in_cells(&strips)), with_jobs(&no_width(MANY, 4_000)));
     let few_crammed = with_jobs(&no_width(MANY, 60));
     let (words, lines) = (texts(FEW, 1..21), texts(FEW, 27..61));
+    let (dots, millimetres) = (stored(FEW, 30_000), stored(FEW, 3_750));
     let rows = [
         row("full, 2,000 marks", &half, 0, FULL),
         row("full, 4,000 marks", &whole, 0, FULL),
@@ -362,6 +393,8 @@ fn main() {
         row("lengths, 4,000 texts of 27 to 60 letters", &lines, 0, LENGTHS),
         row("measure, the 4,000 of 1 to 20 letters one by one", &words, 0, MEASURE),
         row("beginning, the 4,000 of 27 to 60 letters one by one", &lines, 0, BEGINNING),
+        row("place of dots, 4,000 numbers one by one", &dots, 0, DOTS),
+        row("place of millimetres, 4,000 numbers one by one", &millimetres, 0, MILLIMETRES),
     ];
     print_table(&rows);
     println!("\nfull from 2,000 to 4,000 marks: {:.2} times the time", times(exported::full, &half, exported::full, &whole));

@@ -1,11 +1,13 @@
-// The groups of strips, jobs and texts. Each must meet every number that it names, so that no group passes by trying nothing.
+// The groups of strips, jobs, texts and stored numbers. Each must meet every number that it names, so that no group passes by trying
+// nothing.
 use crate::codec::Job;
 use crate::marks::{damage_strip, some_call, some_gap, spoil, Call, Limits, FAULTS};
 use crate::near::{any_strip, some_strip};
+use crate::places::{Stored, Unit};
 use crate::random::Random;
 use crate::strips::{fitting_strip, Shape, Strip};
 use crate::texts::{many_counts, some_filling, some_text, Filling};
-use crate::{best, full, job, largest, slide, texts, weights};
+use crate::{best, full, job, largest, places, slide, texts, weights};
 use std::cell::RefCell;
 use std::fmt::Debug;
 
@@ -19,7 +21,7 @@ fn group<C: Debug>(
     compare: impl Fn(&mut Random, &C) -> Result<u8, String>,
 ) -> usize {
     let mut random = Random::new(seed);
-    let mut seen = [0; 14];
+    let mut seen = [0; 16];
     for _ in 0..cases {
         let case = make(&mut random);
         match compare(&mut random, &case) {
@@ -255,6 +257,33 @@ fn weights_group(name: &str, seed: u64, cases: usize, change: weights::Change) -
     cases
 }
 
+// Cases that are not drawn, one after the other.
+fn in_turn<C>(cases: impl Iterator<Item = C>) -> impl Fn(&mut Random) -> C {
+    let cases = RefCell::new(cases);
+    move |_| cases.borrow_mut().next().unwrap()
+}
+
+// Each sign and exponent with 94 fractions.
+fn edges_group(name: &str, seed: u64, unit: Unit) -> usize {
+    let edges = places::edges(unit);
+    assert_eq!(edges.len(), 2 * 256 * 94);
+    group(name, seed, edges.len(), &[0, 8, 15], in_turn(edges.into_iter()), places::compare_lent)
+}
+
+// Numbers by their patterns, so many that none is lent as lists are, and that they are counted by themselves.
+fn patterns_group(name: &str, cases: usize, numbers: &[u8], patterns: impl Iterator<Item = Stored>) -> usize {
+    group(name, 0, cases, numbers, in_turn(patterns), |_, stored| places::compare(stored))
+}
+
+fn patterns_groups(call: &str, unit: Unit) -> usize {
+    let whole = places::beside_whole(unit);
+    // Five patterns for each of 32,770 sizes and three for 0, with each sign.
+    assert_eq!(whole.len(), 2 * (32_770 * 5 + 3));
+    patterns_group(&format!("{call}, all over the patterns"), 8_000_000, &[0, 8, 15], places::of_all(unit))
+        + patterns_group(&format!("{call}, to 2^16 dots"), 4_000_000, &[0, 8], places::of_near(unit))
+        + patterns_group(&format!("{call}, beside whole dots"), whole.len(), &[0, 8], whole.into_iter())
+}
+
 fn cells_to_6(random: &mut Random, limits: &Limits) -> Call {
     cells_call(random, 6, limits)
 }
@@ -320,7 +349,13 @@ pub fn run_all() -> usize {
         group("lengths, to 8 texts", 23, 40_000, &[0, 6, 8, 9, 13], few_texts, texts::compare_lengths),
         group("lengths, to 4,001 texts", 24, 500, &[0, 6, 7, 8, 9, 13], many_texts, texts::compare_lengths),
         group("lengths, counts whose sum passes 32 bits", 25, 10, &[6], many_counts, texts::compare_lengths),
+        edges_group("place of dots, each exponent", 32, Unit::Dots),
+        edges_group("place of millimetres, each exponent", 33, Unit::Millimetres),
     ]
     .iter()
     .sum()
+}
+
+pub fn run_patterns() -> usize {
+    patterns_groups("place of dots", Unit::Dots) + patterns_groups("place of millimetres", Unit::Millimetres)
 }

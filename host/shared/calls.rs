@@ -1,4 +1,4 @@
-// The nine calls of include/strip.h, on slices: a slice is a pointer and its count of elements, never null and never overlapping
+// The eleven calls of include/strip.h, on slices: a slice is a pointer and its count of elements, never null and never overlapping
 // another that is lent to the same call, so every use is within the header's rules. Built with `--cfg before` from an earlier
 // commit they are those of its archive, whose names host/bench lengthens so that both can be linked.
 
@@ -105,6 +105,10 @@ extern "C" {
         lengths: *mut u8,
         lengths_len: usize,
     ) -> u8;
+    #[cfg_attr(before, link_name = "before_strip_place_of_dots")]
+    fn strip_place_of_dots(value: f32, place: *mut i16) -> u8;
+    #[cfg_attr(before, link_name = "before_strip_place_of_millimetres")]
+    fn strip_place_of_millimetres(value: f32, place: *mut i16) -> u8;
 }
 
 pub fn full(places: &[i16], lengths: &[u8], weights: &[u16], gap: u8, positions: &mut [u8], work: &mut [i16]) -> u8 {
@@ -254,4 +258,12 @@ pub fn beginning(text: &[u8], count: &mut usize) -> u8 {
 
 pub fn lengths(texts: &[u8], counts: &[u16], lengths: &mut [u8]) -> u8 {
     unsafe { strip_lengths(texts.as_ptr(), texts.len(), counts.as_ptr(), counts.len(), lengths.as_mut_ptr(), lengths.len()) }
+}
+
+pub fn place_of_dots(value: f32, place: &mut i16) -> u8 {
+    unsafe { strip_place_of_dots(value, place) }
+}
+
+pub fn place_of_millimetres(value: f32, place: &mut i16) -> u8 {
+    unsafe { strip_place_of_millimetres(value, place) }
 }

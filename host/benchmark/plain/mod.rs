@@ -4,6 +4,7 @@ pub mod font;
 pub mod full;
 pub mod job;
 pub mod largest;
+pub mod place;
 pub mod slide;
 
 // Rising places lie in the range if the first and the last do. Each list is looked at whole, so that the compiler takes several
