@@ -12,7 +12,7 @@ use Rattle.std.specs.Int.{w16, w32}
 use Rattle.std.proofs.lemmas.Int.{to_z_pos}
 use Rattle.geometry.proofs.Dots.{back, held as held-16}
 use Rattle.logger.specs.Value.{times, floor_of}
-use Rattle.logger.specs.inner.Pattern.{exponent}
+use Rattle.logger.proofs.Units.{exponent}
 use Rattle.logger.specs.inner.Dots.{InReach}
 use Rattle.logger.proofs.Reach.{sign, behind-sign, digits-of, few-digits, parts-of-one}
 use Rattle.logger.proofs.Shifts.{signed, signed-size, back-32}

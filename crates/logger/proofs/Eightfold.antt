@@ -19,9 +19,8 @@ use lib.Ieee.Scale.{round_same}
 use Rattle.std.proofs.lemmas.Bool.{le-ltb}
 use Rattle.geometry.proofs.Split.{lt-or-ge}
 use Rattle.logger.specs.Product.{eightfold, leading, infinite}
-use Rattle.logger.specs.inner.Pattern.{exponent, fraction, digits, moved, units, one}
 use Rattle.logger.proofs.Patterns.{number, number-value, number-infinite, number-fits, same-value}
-use Rattle.logger.proofs.Units.{one-pos, units-least, units-below, eight, units-eight, eight-infinite}
+use Rattle.logger.proofs.Units.{exponent, fraction, digits, moved, units, one, one-pos, units-least, units-below, eight, units-eight, eight-infinite}
 
 -- of a number by any fraction that it equals
 product-is : (x : Float) (s : Bool) (a c : ℕ) → 0 < c → HasValue x s a c → eightfold x ≡ round binary32 s (8 * a) c
@@ -76,18 +75,21 @@ rounded-to-infinity s a h top =
     round_is binary32 s a (2 ^ 149)
     ∙ infinite-from s (nearest (n / unit) tie) k (le_trans (le_of_eq (sym both)) (mul-le-mul_right (2 ^ k) kept))
 
+-- the bits that are three times doubled have 8 times the value, where they are not an infinity's
+pub eight-value : (s : Bool) (n : ℕ) → eight n < infinite → HasValue (number s (eight n)) s (8 * units n) one
+eight-value s n finite =
+    subst (λ (u : ℕ). HasValue (number s (eight n)) s u one) (units-eight n finite) (number-value s (eight n) finite)
+
 -- the product by 8 of a finite number, by its bits
 pub product : (s : Bool) (n : ℕ) → n < infinite → eightfold (number s n) ≡ number s (eight n)
 product s n h =
     product-is (number s n) s (units n) one one-pos (number-value s n h)
     ∙ elim (lt-or-ge (eight n) infinite) [
       | inl finite ↦
-          let value : HasValue (number s (eight n)) s (8 * units n) one =
-          subst (λ (u : ℕ). HasValue (number s (eight n)) s u one) (units-eight n finite) (number-value s (eight n) finite) in
           let few : 8 * units n < 2 ^ 277 =
           subst (λ (u : ℕ). u < 2 ^ 277) (units-eight n finite) (units-below 253 (eight n) (omega (arith, finite))) in
           same-value (round binary32 s (8 * units n) one) (number s (eight n)) s (8 * units n) one
-          (round-fits binary32 s (8 * units n) one) (number-fits s (eight n) (omega (arith, finite))) one-pos (product-kept s n few) value
+          (round-fits binary32 s (8 * units n) one) (number-fits s (eight n) (omega (arith, finite))) one-pos (product-kept s n few) (eight-value s n finite)
       | inr high ↦
           let far = eight-infinite n high in
           let below : 8 * units n < 8 * 2 ^ 277 = mul-lt-mul_of_pos_left (units-below 253 n (omega (arith, h))) (lit< tt) in

@@ -3,7 +3,7 @@ use mathlib.Core.Path.{◌≡◌, refl, sym, ap, ◌∙◌}
 use mathlib.Core.Logic.{inl, inr}
 use mathlib.Core.Bool.{Bool, true, false}
 use Prim.Native.Nat.{ℕ, zero, suc, ◌+◌, ◌-◌, ◌*◌, ◌/◌, ◌^◌, ◌≤◌, ◌<◌}
-use native.Mathlib.Nat.{lt_irrefl, le_trans, le_of_eq, le_of_lt, lt_of_lt_of_le, lt_of_le_of_lt}
+use native.Mathlib.Nat.{pos_of_ne-zero, lt_irrefl, le_trans, le_of_eq, le_of_lt, lt_of_lt_of_le, lt_of_le_of_lt}
 use native.Mathlib.Nat.{one-mul, div-eq_of_lt, div-lt_iff_lt-mul, zero-div}
 use native.Mathlib.Omega.{arith}
 use lib.Dec.{T, lit<}
@@ -16,11 +16,10 @@ use Rattle.std.proofs.lemmas.Bool.{le-leb, lt-leb}
 use Rattle.geometry.proofs.Split.{lt-or-ge}
 use Rattle.logger.specs.Value.{Exact, times, floor_of}
 use Rattle.logger.specs.Product.{sign_bit, Same}
-use Rattle.logger.specs.inner.Pattern.{exponent, units, one}
 use Rattle.logger.specs.inner.Dots.{InReach}
 use Rattle.logger.proofs.Exacts.{exact, same-on, parts-pos}
 use Rattle.logger.proofs.Floors.{floor-same}
-use Rattle.logger.proofs.Units.{one-pos, units-low}
+use Rattle.logger.proofs.Units.{exponent, units, one, one-pos, units-low}
 use Rattle.logger.proofs.Reach.{sign, behind-sign, digits-of, digits-are, few-digits, parts-of-one, digits-over-parts}
 use Rattle.logger.proofs.Reach.{exponent-below-142, in-units, less-than-one, only-zero}
 use Rattle.logger.proofs.Shifts.{signed, signed-is, cut-size}
@@ -36,15 +35,11 @@ module _ (x : Float) (held : T (fits binary32 x)) (reach : InReach x) where
     pub below-zero : sign_bit < to_bits binary32 x → negsuc 0 ≡ floor_of (times 1 x)
     below-zero h =
         let some : 0 < units (behind-sign x) =
-        positive (units (behind-sign x)) (λ e. omega (arith, only-zero (behind-sign x) e, h, to_bits-lt binary32 x held)) in
+        pos_of_ne-zero (λ e. omega (arith, only-zero (behind-sign x) e, h, to_bits-lt binary32 x held)) in
         sym (floor-small
         ∙ ap (λ (s : Bool). floor_of (exact s (units (behind-sign x)) one)) (le-leb sign_bit (to_bits binary32 x) (le_of_lt h))
         ∙ minus-one (units (behind-sign x)) some (less-than-one (behind-sign x) small))
       where
-        positive : (u : ℕ) → (u ≡ 0 → ⊥) → 0 < u
-        positive zero none = absurd (none refl)
-        positive (suc u) none = omega arith
-
         minus-one : (u : ℕ) → 0 < u → u < one → floor_of (exact true u one) ≡ negsuc 0
         minus-one zero some h = absurd (lt_irrefl 0 some)
         minus-one (suc u) some h = ap negsuc (div-eq_of_lt (lt_of_le_of_lt (omega arith) h))

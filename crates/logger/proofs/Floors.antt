@@ -1,6 +1,6 @@
 -- The division rounded down is the largest whole number not above an exact number, and equal numbers have one floor.
 use mathlib.Core.Path.{◌≡◌, refl, sym, ap, ◌∙◌, subst}
-use mathlib.Core.Bool.{Bool, true, false, cond, ◌&&◌}
+use mathlib.Core.Bool.{Bool, true, false, cond}
 use Prim.Native.Nat.{ℕ, zero, suc, ◌-◌, ◌*◌, ◌/◌, ◌≤◌, ◌<◌, zero-le}
 use native.Mathlib.Nat.{zero-mul, mul-pos, mul_right_comm, mul-lt-mul_of_pos_right, lt_of_mul-lt-mul_right, le_antisymm}
 use native.Mathlib.Nat.{zero-div, div-mul-le_self, le-div_iff_mul-le, div-lt_iff_lt-mul}
@@ -9,6 +9,7 @@ use lib.Dec.{leb, le→leb, leb→le}
 use lib.IntN.{ℤ, pos, negsuc, neg_ℤ, suc_ℤ, ◌*ℤ◌}
 use lib.Signed.{◌≤ℤ◌, ◌<ℤ◌, lt_z, lt_z_no, shr_z}
 use lib.Ieee.Nearest.{div_same}
+use Rattle.std.proofs.Math.Bool.{and-true}
 use Rattle.std.proofs.lemmas.Float.{T_from_true, T_from_false}
 use Rattle.geometry.proofs.Split.{same_test}
 use Rattle.geometry.specs.Mark.{place_in_range_lem}
@@ -82,10 +83,6 @@ range-is v p = go v.minus v.size
     less n most =
         same_test (n / v.parts) most (suc n) (suc most * v.parts) (λ h. (div-lt_iff_lt-mul p).0 (omega (arith, h)))
         (λ h. let below : n / v.parts < suc most = (div-lt_iff_lt-mul p).1 h in omega (arith, below))
-
-    and-true : (t : Bool) → (t && true) ≡ t
-    and-true true = refl
-    and-true false = refl
 
     go : (s : Bool) (n : ℕ) → place_in_range_lem (floor_of (exact s n v.parts)) ≡ between_ends (exact s n v.parts)
     go false n = less n most_size

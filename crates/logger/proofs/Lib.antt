@@ -1,7 +1,7 @@
 pub mod Exacts
 pub mod Floors
-pub mod Patterns
 pub mod Units
+pub mod Patterns
 pub mod Eightfold
 pub mod Reach
 pub mod Shifts

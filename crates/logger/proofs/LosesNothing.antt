@@ -1,16 +1,15 @@
 -- A product by 8 loses nothing, so both units give one place for one spot.
 use mathlib.Core.Path.{◌≡◌, refl, sym, ap, ap₂, ◌∙◌}
-use mathlib.Core.Bool.{Bool, true, false}
+use mathlib.Core.Bool.{true, false}
 use Prim.Native.Nat.{ℕ}
 use lib.Dec.{T}
 use lib.Ieee.{Float, binary32, fits}
 use Rattle.std.specs.Prelude.{ℤ}
 use Rattle.std.specs.Float.{float_is_finite}
-use Rattle.std.proofs.lemmas.Bool.{false≢true}
+use Rattle.std.proofs.lemmas.Bool.{false≢true, false_from_ne_true, true_from_ne_false}
 use Rattle.geometry.specs.Mark.{place_in_range_lem}
 use Rattle.geometry.specs.Refusal.{accepted, refused, number_of}
 use Rattle.geometry.specs.declared.refusal.Refusal.TheVariants.{BadMark, NotFinite}
-use Rattle.geometry.proofs.Split.{by_bool}
 use Rattle.geometry.proofs.Verdicts.{refusal-positive}
 use Rattle.logger.specs.Value.{Dots, Millimetres, times}
 use Rattle.logger.specs.Place.{place_of, place_verdict, place_after, Placed, PlaceContract}
@@ -31,9 +30,7 @@ exact-where-finite x held finite = go (of-finite x held (factor-finite x finite)
 
 -- what is not finite is not in range
 beyond : (x : Float) → float_is_finite x ≡ false → in_range_lem x ≡ false
-beyond x infinite =
-    by_bool (in_range_lem x) (λ (t : Bool). t ≡ false) (λ in-range. absurd (false≢true (sym infinite ∙ in-range-finite x in-range)))
-    (λ no-range. refl)
+beyond x infinite = false_from_ne_true (in_range_lem x) (λ in-range. false≢true (sym infinite ∙ in-range-finite x in-range))
 
 module _ (x : Float) (held : T (fits binary32 x)) where
   too-large : float_is_finite x ≡ true → float_is_finite (eightfold x) ≡ false → place_verdict (Millimetres x) ≡ refused BadMark
@@ -41,13 +38,13 @@ module _ (x : Float) (held : T (fits binary32 x)) where
 
   in-range : place_verdict (Millimetres x) ≡ accepted → float_is_finite (eightfold x) ≡ true
   in-range passed =
-      by_bool (float_is_finite (eightfold x)) (λ (t : Bool). t ≡ true) (λ finite. refl)
-      (λ infinite. absurd (refusal-positive BadMark (ap number_of (sym (too-large given infinite) ∙ passed))))
+      true_from_ne_false (float_is_finite (eightfold x))
+      (λ infinite. refusal-positive BadMark (ap number_of (sym (too-large given infinite) ∙ passed)))
     where
       given : float_is_finite x ≡ true
       given =
-          by_bool (float_is_finite x) (λ (t : Bool). t ≡ true) (λ finite. refl)
-          (λ infinite. absurd (refusal-positive NotFinite (ap number_of (sym (verdict-is (Millimetres x) infinite refl) ∙ passed))))
+          true_from_ne_false (float_is_finite x)
+          (λ infinite. refusal-positive NotFinite (ap number_of (sym (verdict-is (Millimetres x) infinite refl) ∙ passed)))
 
 -- ---- both units
 

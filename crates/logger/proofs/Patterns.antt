@@ -16,7 +16,7 @@ use Rattle.std.proofs.lemmas.Bool.{ne_eqb, le-leb, lt-leb, false≢true}
 use Rattle.std.specs.Float.{float_is_finite}
 use Rattle.geometry.proofs.Split.{lt-or-ge}
 use Rattle.logger.specs.Product.{leading, infinite, sign_bit}
-use Rattle.logger.specs.inner.Pattern.{exponent, fraction, digits, moved, units, one}
+use Rattle.logger.proofs.Units.{exponent, fraction, digits, moved, units, one}
 
 -- the number that has a sign and the bits behind it
 abbrev pub number : Bool → ℕ → Float
@@ -58,7 +58,7 @@ unfolding of_fields
 number-infinite s = refl
 
 -- the bits of a finite number are below it
-pub finite-bits : (s : Bool) (n : ℕ) → n < sign_bit → float_is_finite (number s n) ≡ true → n < infinite
+finite-bits : (s : Bool) (n : ℕ) → n < sign_bit → float_is_finite (number s n) ≡ true → n < infinite
 unfolding of_fields float_is_finite
 finite-bits s n h k = elim (lt-or-ge n infinite) [
   | inl low ↦ low
@@ -71,6 +71,11 @@ finite-bits s n h k = elim (lt-or-ge n infinite) [
     differ : (b : Bool) → float_is_finite (cond b (inf s) nan) ≡ true → ⊥
     differ true e = false≢true e
     differ false e = false≢true e
+
+pub finite-behind : (x : Float) → T (fits binary32 x) → float_is_finite x ≡ true → to_bits binary32 x % sign_bit < infinite
+finite-behind x h k =
+    finite-bits (leb sign_bit (to_bits binary32 x)) (to_bits binary32 x % sign_bit) (omega arith)
+    (subst (λ (y : Float). float_is_finite y ≡ true) (bits-of x h) k)
 
 -- ---- a value has one pattern
 

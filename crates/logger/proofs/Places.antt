@@ -13,11 +13,10 @@ use Rattle.geometry.specs.Mark.{place_in_range_lem}
 use Rattle.logger.specs.Value.{Logged, Dots, Millimetres, times, given_lem, dots_of, floor_of, IsLargest}
 use Rattle.logger.specs.Place.{place_of}
 use Rattle.logger.specs.Product.{eightfold}
-use Rattle.logger.specs.inner.Pattern.{one}
 use Rattle.logger.specs.inner.Dots.{in_dots_lem, InReach, most_size, between_ends, in_range_lem}
 use Rattle.logger.proofs.Exacts.{exact, parts-pos}
 use Rattle.logger.proofs.Floors.{floor-is, floor-same, range-is}
-use Rattle.logger.proofs.Units.{one-pos}
+use Rattle.logger.proofs.Units.{one, one-pos}
 use Rattle.logger.proofs.Products.{Eightfold, kept, lost, of-finite, factor-finite}
 
 -- ---- a number in range

@@ -13,11 +13,10 @@ use Rattle.std.specs.Float.{float_is_finite, NotNan}
 use Rattle.geometry.proofs.Split.{lt-or-ge}
 use Rattle.logger.specs.Value.{times}
 use Rattle.logger.specs.Product.{eightfold, Same, sign_bit, infinite, doubled, eightfold_bits}
-use Rattle.logger.specs.inner.Pattern.{exponent, units, one}
 use Rattle.logger.proofs.Exacts.{exact, same-back, same-on, many}
-use Rattle.logger.proofs.Patterns.{number, number-value, number-infinite, finite-bits, bits-of, read-bits, written-bits}
-use Rattle.logger.proofs.Units.{one-pos, eight, doubled-most, units-least, units-eight, eight-infinite}
-use Rattle.logger.proofs.Eightfold.{product}
+use Rattle.logger.proofs.Patterns.{number, number-value, number-infinite, finite-behind, bits-of, read-bits, written-bits}
+use Rattle.logger.proofs.Units.{exponent, units, one, one-pos, eight, doubled-most, units-least, eight-infinite}
+use Rattle.logger.proofs.Eightfold.{eight-value, product}
 
 -- a finite product has a finite factor
 pub factor-finite : (x : Float) → float_is_finite (eightfold x) ≡ true → float_is_finite x ≡ true
@@ -31,7 +30,7 @@ finite-pattern : (x : Float) → T (fits binary32 x) → float_is_finite x ≡ t
 finite-pattern x h k =
     let s = leb sign_bit (to_bits binary32 x) in
     let n = to_bits binary32 x % sign_bit in
-    (s, n, finite-bits s n (omega arith) (subst (λ (y : Float). float_is_finite y ≡ true) (bits-of x h) k), bits-of x h)
+    (s, n, finite-behind x h k, bits-of x h)
 
 -- what becomes of its eightfold
 pub data Eightfold (x : Float) : Type 0 where
@@ -54,8 +53,7 @@ of-pattern : (s : Bool) (n : ℕ) → n < infinite → Eightfold (number s n)
 of-pattern s n h = elim (lt-or-ge (eight n) infinite) [
   | inl finite ↦
       let value : HasValue (eightfold (number s n)) s (8 * units n) one =
-      subst (λ (y : Float). HasValue y s (8 * units n) one) (sym (product s n h))
-      (subst (λ (u : ℕ). HasValue (number s (eight n)) s u one) (units-eight n finite) (number-value s (eight n) finite)) in
+      subst (λ (y : Float). HasValue y s (8 * units n) one) (sym (product s n h)) (eight-value s n finite) in
       let one-times : Same (times 1 (eightfold (number s n))) (exact s (8 * units n) one) =
       subst (λ (u : ℕ). Same (times 1 (eightfold (number s n))) (exact s u one)) (one-mul (8 * units n))
       (many 1 (eightfold (number s n)) s (8 * units n) one value) in

@@ -13,11 +13,10 @@ use Rattle.std.specs.Float.{float_is_finite, NotNan}
 use Rattle.geometry.proofs.Split.{lt-or-ge}
 use Rattle.logger.specs.Value.{times}
 use Rattle.logger.specs.Product.{leading, infinite, sign_bit, Same}
-use Rattle.logger.specs.inner.Pattern.{exponent, fraction, digits, moved, units, one}
 use Rattle.logger.specs.inner.Dots.{InReach}
 use Rattle.logger.proofs.Exacts.{exact, many}
-use Rattle.logger.proofs.Patterns.{number-value, finite-bits, bits-of}
-use Rattle.logger.proofs.Units.{one-pos, units-least, units-below, units-low}
+use Rattle.logger.proofs.Patterns.{number-value, finite-behind, bits-of}
+use Rattle.logger.proofs.Units.{exponent, fraction, digits, moved, units, one, one-pos, units-least, units-below, units-low}
 
 reach-finite : (x : Float) → InReach x → float_is_finite x ≡ true
 unfolding float_is_finite
@@ -104,9 +103,7 @@ few-digits x = few (to_bits binary32 x % leading) (omega arith)
 
 module _ (x : Float) (held : T (fits binary32 x)) (reach : InReach x) where
   finite : behind-sign x < infinite
-  finite =
-      finite-bits (sign x) (behind-sign x) (omega arith)
-      (subst (λ (y : Float). float_is_finite y ≡ true) (bits-of x held) (reach-finite x reach))
+  finite = finite-behind x held (reach-finite x reach)
 
   value : HasValue x (sign x) (units (behind-sign x)) one
   value = subst (λ (y : Float). HasValue y (sign x) (units (behind-sign x)) one) (sym (bits-of x held)) (number-value (sign x) (behind-sign x) finite)

@@ -1,8 +1,9 @@
--- A number by its bits in units of the least: twice a number has twice the units, and the exponent bounds them.
+-- A finite number by the 31 bits behind its sign: its digits, moved up by its exponent, counted in units of the least number, 2 ^ -149. Twice
+-- a number has twice the units, and the exponent bounds them.
 use mathlib.Core.Path.{◌≡◌, sym, ap, ◌∙◌, subst}
 use mathlib.Core.Logic.{inl, inr}
 use mathlib.Core.Bool.{Bool, cond}
-use Prim.Native.Nat.{ℕ, zero, suc, ◌+◌, ◌-◌, ◌*◌, ◌^◌, ◌≤◌, ◌<◌, min}
+use Prim.Native.Nat.{ℕ, zero, suc, ◌+◌, ◌-◌, ◌*◌, ◌/◌, ◌%◌, ◌^◌, ◌≤◌, ◌<◌, min}
 use native.Mathlib.Nat.{pow-succ', mul-le-mul, mul-one, mul_left_comm, le_trans, le_of_eq, lt_of_lt_of_le}
 use native.Mathlib.Omega.{arith}
 use lib.Dec.{lit≤}
@@ -10,7 +11,28 @@ use lib.Arith.{digits_div, digits_mod}
 use lib.Pow.{pow-add, pow_pos, pow_mono, shl_lt}
 use Rattle.geometry.proofs.Split.{by-ltb, lt-or-ge}
 use Rattle.logger.specs.Product.{leading, infinite, doubled}
-use Rattle.logger.specs.inner.Pattern.{exponent, fraction, digits, moved, units, one}
+
+abbrev pub exponent : ℕ → ℕ
+exponent n = n / leading
+
+abbrev pub fraction : ℕ → ℕ
+fraction n = n % leading
+
+abbrev pub digits : ℕ → ℕ → ℕ
+digits zero t = t
+digits (suc x) t = leading + t
+
+-- how many places they are moved up: an exponent of 0 counts as one of 1
+abbrev pub moved : ℕ → ℕ
+moved zero = 0
+moved (suc x) = x
+
+unfoldable pub units : ℕ → ℕ
+units n = digits (exponent n) (fraction n) * 2 ^ moved (exponent n)
+
+-- how many units are 1
+unfoldable pub one : ℕ
+one = 2 ^ 149
 
 pub one-pos : 0 < one
 unfolding one

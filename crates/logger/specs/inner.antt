@@ -1,3 +1,2 @@
 -- Definitions that no public contract names.
-pub mod Pattern
 pub mod Dots

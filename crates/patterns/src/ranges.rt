@@ -26,7 +26,8 @@ const ENDS: [Spot<u32>; 16] = [
     (1316, 0xc6ea_6201, 0xc56a_6201, Err(8)),
 ];
 
-// Out of range in dots; the last four are the numbers at the ends, of millimetres. 65,541 is 2^16 + 5, and 2^32 + 512 is the least number above 2^32: cut off to 16 bits they would be in range.
+// Out of range in dots; the last four are the ends, as numbers of millimetres. 65,541 is 2^16 + 5, and 2^32 + 512 is the least number above
+// 2^32: cut off to 16 bits they would be in range.
 const BEYOND: [Spot<f32>; 18] = [
     (1321, 30001.0, 3750.125, Err(8)),
     (1322, -30001.0, -3750.125, Err(8)),
