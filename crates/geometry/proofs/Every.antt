@@ -15,7 +15,7 @@ use Rattle.std.specs.List.{list_all}
 use Rattle.geometry.specs.Mark.{rising}
 use Rattle.geometry.proofs.Split.{both, and-fst, and-snd}
 
-and-moves : (good here rest : Bool) → (good && (here && rest)) ≡ ((good && here) && rest)
+pub and-moves : (good here rest : Bool) → (good && (here && rest)) ≡ ((good && here) && rest)
 and-moves true here rest = refl
 and-moves false here rest = refl
 
@@ -61,6 +61,12 @@ pub rising-all : (zs : List ℤ) (d : ℤ) (i : ℕ) (good : Bool) → rising zs
 unfolding rising
 rising-all [] d i good so_far some within h = none-left (i - 1) so_far
 rising-all (z ∷ zs) d i good so_far some within h = rising-ends (z ∷ zs) d (i - 1) good so_far (omega (arith, within))
+
+-- places without the first rise too
+pub rising-tail : (z : ℤ) (zs : List ℤ) → rising (z ∷ zs) ≡ true → rising zs ≡ true
+unfolding rising
+rising-tail z [] e = refl
+rising-tail z (y ∷ zs) e = and-snd (lt_z z y) (rising (y ∷ zs)) e
 
 -- what every element of a list passes, every element of a part passes
 module _ {A : Type 0} (p : A → Bool) where

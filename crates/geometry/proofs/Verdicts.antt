@@ -16,7 +16,7 @@ use Rattle.geometry.specs.Entry.{lists_checks, count_checks, value_checks, entry
 use lib.ListN.{length}
 use Rattle.geometry.specs.Pass.{gap_checks, answer_checks, work_checks, pass_verdict}
 use Rattle.geometry.specs.Refusal.{Refusal, BytesEnd, StrayBit, AbsentValue, OutOfRange, BytesLeftOver, ListsUnequal, TooManyMarks}
-use Rattle.geometry.specs.Refusal.{BadMark, ListTooShort, WorkTooShort, NoPlacing, GapTooWide, StrayByte, NotFinite, refusal_number}
+use Rattle.geometry.specs.Refusal.{BadMark, ListTooShort, WorkTooShort, NoPlacing, GapTooWide, StrayByte, NotFinite, NotOnOneLine, refusal_number}
 use Rattle.geometry.specs.Refusal.{Verdict, accepted, refused, number_of, verdict_of, answer_number, Check, at_most, after_check, first_failure}
 use Rattle.geometry.proofs.Split.{by_bool, is-leb, and-fst, and-snd}
 
@@ -36,6 +36,7 @@ refusal-positive NoPlacing e = omega arith
 refusal-positive GapTooWide e = omega arith
 refusal-positive StrayByte e = omega arith
 refusal-positive NotFinite e = omega arith
+refusal-positive NotOnOneLine e = omega arith
 
 -- so number 0 is acceptance
 pub zero-accepted : (v : Verdict) → number_of v ≡ 0 → v ≡ accepted

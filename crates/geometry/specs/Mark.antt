@@ -35,7 +35,7 @@ length_in_range_lem l = leb 1 l && leb l most_length
 abbrev pub weight_in_range_lem : ℕ → Bool
 weight_in_range_lem w = leb 1 w && leb w most_weight
 
--- the order of the places: each is below the next
+-- The order of the places: each is below the next. Coordinates of tracks (crate slope) rise so too, whatever is asked of the places of a strip.
 unfoldable pub rising : List ℤ → Bool
 rising [] = true
 rising (z ∷ []) = true

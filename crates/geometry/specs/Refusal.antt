@@ -1,9 +1,11 @@
 -- "Where the labeller says no": the refusal numbers, and "The first check that is not passed decides." Document 02, P2: "12, gap over 8
--- [..]; it and every later number join document 01's table." P4: "13, a byte outside 32 to 126". P10: "15, a value not finite".
+-- [..]; it and every later number join document 01's table." P4: "13, a byte outside 32 to 126". P10: "15, a value not finite". P13: "18,
+-- marks not on one line".
 use Rattle.std.specs.Prelude.{ℕ, List, [], ◌∷◌, Bool, true, false, leb, Result, Ok, Err}
 pub use Rattle.geometry.specs.declared.refusal.Refusal.{Refusal}
 pub use Rattle.geometry.specs.declared.refusal.Refusal.TheVariants.{BytesEnd, StrayBit, AbsentValue, OutOfRange, BytesLeftOver, ListsUnequal}
-pub use Rattle.geometry.specs.declared.refusal.Refusal.TheVariants.{TooManyMarks, BadMark, ListTooShort, WorkTooShort, NoPlacing, GapTooWide, StrayByte, NotFinite}
+pub use Rattle.geometry.specs.declared.refusal.Refusal.TheVariants.{TooManyMarks, BadMark, ListTooShort, WorkTooShort, NoPlacing, GapTooWide, StrayByte}
+pub use Rattle.geometry.specs.declared.refusal.Refusal.TheVariants.{NotFinite, NotOnOneLine}
 
 abbrev pub refusal_number : Refusal → ℕ
 refusal_number BytesEnd = 1
@@ -20,6 +22,7 @@ refusal_number NoPlacing = 11
 refusal_number GapTooWide = 12
 refusal_number StrayByte = 13
 refusal_number NotFinite = 15
+refusal_number NotOnOneLine = 18
 
 pub data Verdict : Type 0 where
   accepted : Verdict

@@ -53,9 +53,9 @@ fn rises(x: i16, y: i16) -> bool
     x < y
 }
 
-// Whether each place is below the next. The list is looked at whole here too: `is_sorted_by` stops at the first that is not, and `windows`
-// gives slices, whose two elements are looked up by index again.
-fn places_rise(places: &[i16]) -> bool
+// Whether each place, or coordinate of a track, is below the next. The list is looked at whole here too: `is_sorted_by` stops at the first that
+// is not, and `windows` gives slices, whose two elements are looked up by index again.
+pub fn places_rise(places: &[i16]) -> bool
     ensures { result ≡ rising places.now }
 {
     let mut good = true;

@@ -18,6 +18,7 @@ pub enum Refusal {
     GapTooWide = 12,
     StrayByte = 13,
     NotFinite = 15,
+    NotOnOneLine = 18,
 }
 
 impl From<Refusal> for u8 {

@@ -13,9 +13,10 @@ use Rattle.std.specs.List.{list_all}
 use Rattle.geometry.specs.Mark.{place_in_range_lem, length_in_range_lem, weight_in_range_lem, rising}
 use Rattle.geometry.specs.Strip.{Strip, strip}
 use Rattle.geometry.proofs.Split.{both}
+use Rattle.geometry.proofs.Every.{rising-tail}
 use Rattle.geometry.proofs.Accepted.{Accepted, first_good, rest-good}
 use Rattle.job.specs.Encode.{first_place_lem}
-use Rattle.job.proofs.RisingPlaces.{dots-rise, rising-rest, rising-first, rising-more}
+use Rattle.job.proofs.RisingPlaces.{dots-rise, rising-first, rising-more}
 
 -- the place y comes after the place z; z is y itself at the first mark
 abbrev pub Follows : Bool → ℤ → ℤ → Type 0
@@ -58,7 +59,7 @@ module _ (limit : ℕ) where
         same-weights = omega (arith, a.same-weights);
         few = omega (arith, a.few);
         places-good = rest-good place_in_range_lem z zs a.places-good;
-        places-rise = rising-rest z zs a.places-rise;
+        places-rise = rising-tail z zs a.places-rise;
         lengths-good = rest-good length_in_range_lem l ls a.lengths-good;
         weights-good = rest-good weight_in_range_lem w ws a.weights-good;
       }

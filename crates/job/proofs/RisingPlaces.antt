@@ -15,6 +15,7 @@ use Rattle.geometry.specs.Dot.{dot}
 use Rattle.geometry.specs.Mark.{place_in_range_lem, rising}
 use Rattle.geometry.proofs.Split.{and-fst, and-snd, both}
 use Rattle.geometry.proofs.Dots.{dot-lt, range-mag}
+use Rattle.geometry.proofs.Every.{rising-tail}
 use Rattle.geometry.proofs.Accepted.{first_good, rest-good}
 
 module _ (z y : ℤ) (pz : place_in_range_lem z ≡ true) (py : place_in_range_lem y ≡ true) where
@@ -24,11 +25,6 @@ module _ (z y : ℤ) (pz : place_in_range_lem z ≡ true) (py : place_in_range_l
 
   pub dots-rise : dot z < dot y → lt_z z y ≡ true
   dots-rise h = dot-lt z y (range-mag z pz) (range-mag y py) ∙ lt-ltb (dot z) (dot y) h
-
-pub rising-rest : (z : ℤ) (zs : List ℤ) → rising (z ∷ zs) ≡ true → rising zs ≡ true
-unfolding rising
-rising-rest z [] e = refl
-rising-rest z (y ∷ zs) e = and-snd (lt_z z y) (rising (y ∷ zs)) e
 
 -- the first two places of a list that rises, and any two neighbours
 pub rising-first : (z y : ℤ) (zs : List ℤ) → list_all place_in_range_lem (z ∷ y ∷ zs) ≡ true → rising (z ∷ y ∷ zs) ≡ true → dot z < dot y
@@ -47,4 +43,4 @@ pub rising-at : (zs : List ℤ) (i : ℕ) → list_all place_in_range_lem zs ≡
 rising-at [] i good e h = absurd (omega arith)
 rising-at (z ∷ []) i good e h = absurd (omega arith)
 rising-at (z ∷ y ∷ zs) zero good e h = rising-first z y zs good e
-rising-at (z ∷ y ∷ zs) (suc i) good e h = rising-at (y ∷ zs) i (rest-good place_in_range_lem z (y ∷ zs) good) (rising-rest z (y ∷ zs) e) (omega arith)
+rising-at (z ∷ y ∷ zs) (suc i) good e h = rising-at (y ∷ zs) i (rest-good place_in_range_lem z (y ∷ zs) good) (rising-tail z (y ∷ zs) e) (omega arith)
