@@ -1,0 +1,19 @@
+-- The proofs of the slope pass.
+pub mod Spans
+pub mod Rises
+pub mod Locality
+pub mod ByTwo
+pub mod FirstTwo
+pub mod Enough
+pub mod Spreads
+pub mod Sets
+pub mod Gathered
+pub mod Rows
+pub mod Walked
+pub mod Tested
+pub mod Checks
+pub mod Fits
+pub mod Contract
+pub mod Threes
+pub mod TrackExample
+pub mod Apart
