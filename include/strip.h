@@ -13,6 +13,9 @@
  *
  * A place may come as a logger stored it, as an IEEE 754 binary32 number of dots, or of millimetres with 8 dots each.
  *
+ * A track that slopes has its marks in the plane, x to the right and y upward, in dots. It is two lists of one length, the x and the y of
+ * each mark, both strictly rising, all marks on one straight line. Each mark has a square, all of one side, with a corner on the mark.
+ *
  * Every list is a pointer and then its count of elements. What the caller owes, and no call can test:
  *   - no pointer is NULL, also where the count is 0, and each is aligned for its element type;
  *   - each pointer has at least its count of elements behind it, all of them initialised;
@@ -32,11 +35,12 @@
  *   - reader: 1 and 4 for the header, 9, then 1 to 4 record by record, and at the end 5;
  *   - measure: 13 over the whole text, 8; beginning: 13 over the whole text;
  *   - lengths: 6, 7, 13 over all texts, 8 over all texts, 9;
- *   - place of dots, of millimetres: 15, 8.
- * So past 6 and 12 slide and best refuse a strip of 61 to 4,000 marks by 8 if one of them is bad, and by 7 if all are good.
+ *   - place of dots, of millimetres: 15, 8;
+ *   - slope: 6, 7 over 4,000 marks, 8, the side included, 7 over 60 marks, 18, 9, and at the end 11.
+ * So past 6 and 12 slide and best, and past 6 slope, refuse 61 to 4,000 marks by 8 if one of them, or the side, is bad, and else by 7.
  *
  * The archive, target/staticlib/libexports.a, is an `ar` archive of one ELF object for x86-64 with the System V calling
- * convention: some 32,100 bytes, of them 21,000 code and constants, and no variables. It leaves one symbol undefined, memset. It
+ * convention: some 37,400 bytes, of them 24,500 code and constants, and no variables. It leaves one symbol undefined, memset. It
  * links into position-independent and into static programs. Its instructions are those of the level x86-64-v2, with SSSE3 and SSE4.1.
  * It uses SSE registers, and the 128 bytes below the stack pointer that the convention keeps free: an interrupt on the same stack must
  * leave both as they were.
@@ -50,7 +54,9 @@
  *     share, 2n + 2 to prepare, 8n to walk, n(n + 1)/2 to list the left-out marks, and 30,000 to clear the work area twice;
  *   - reader and writer: 2n records, since each is looked at twice;
  *   - measure, beginning and lengths: 2, 2 and 3 looks at each byte, lengths also 4 at each count;
- *   - place of dots, of millimetres: 4, without a loop.
+ *   - place of dots, of millimetres: 4, without a loop;
+ *   - slope: 5n for the checks on entry, 2n pairs of marks to fill its table and n pairs to walk; of a pair both distances are counted in
+ *     sides, and its 16 pairs of positions are bits of one number.
  */
 #ifndef STRIP_H
 #define STRIP_H
@@ -70,25 +76,27 @@ extern "C" {
  *   5: strip_measure, strip_beginning and strip_lengths are new, and refuse 13; the other calls answer as in version 4.
  *   6: strip_largest is new; the other calls answer as in version 5. strip_full takes up to 256 bytes of stack, in version 5 up to 128.
  *   7: strip_place_of_dots and strip_place_of_millimetres are new, and refuse 15; the other calls answer as in version 6.
+ *   8: strip_slope is new, and refuses 18; the other calls answer as in version 7.
  */
-#define STRIP_VERSION 7
+#define STRIP_VERSION 8
 
-/* What a call returns. */
+/* What a call returns. From strip_slope 8 also says that x or y do not rise strictly, as places must, and 11 speaks of squares. */
 #define STRIP_ACCEPTED 0
-#define STRIP_BYTES_END 1       /* reader: the bytes end too early */
-#define STRIP_STRAY_BIT 2       /* reader: a bit of 3 to 7 stands in a map byte, or bit 0 in the first one */
-#define STRIP_ABSENT_VALUE 3    /* reader: a field holds the value it has if absent */
-#define STRIP_OUT_OF_RANGE 4    /* reader: a count, a place or a field is out of range */
-#define STRIP_BYTES_LEFT_OVER 5 /* reader: bytes follow the last record */
-#define STRIP_LISTS_UNEQUAL 6   /* passes, largest, writer: mark lists of unequal length; lengths: counts that do not add up */
-#define STRIP_TOO_MANY_MARKS 7  /* over 4,000 marks or texts; slide, best: over 60 marks, all of them good */
-#define STRIP_BAD_MARK 8        /* a value out of range, or places not rising; measure, lengths: a text of 0 or over 240 dots */
-#define STRIP_LIST_TOO_SHORT 9  /* a list to be filled is shorter than the count of marks or texts, or the output than the job */
-#define STRIP_WORK_TOO_SHORT 10 /* passes, largest: the work area is shorter than named below */
-#define STRIP_NO_PLACING 11     /* full, slide: not every mark can have a label; largest: not even with cells of 1 dot */
-#define STRIP_GAP_TOO_WIDE 12   /* passes, largest: the gap is over 8; tested right after 6 */
-#define STRIP_STRAY_BYTE 13     /* measure, beginning, lengths: a byte outside 32 to 126 */
-#define STRIP_NOT_FINITE 15     /* place of dots, of millimetres: the value is a NaN or infinite */
+#define STRIP_BYTES_END 1        /* reader: the bytes end too early */
+#define STRIP_STRAY_BIT 2        /* reader: a bit of 3 to 7 stands in a map byte, or bit 0 in the first one */
+#define STRIP_ABSENT_VALUE 3     /* reader: a field holds the value it has if absent */
+#define STRIP_OUT_OF_RANGE 4     /* reader: a count, a place or a field is out of range */
+#define STRIP_BYTES_LEFT_OVER 5  /* reader: bytes follow the last record */
+#define STRIP_LISTS_UNEQUAL 6    /* passes, largest, writer, slope: mark lists of unequal length; lengths: counts that do not add up */
+#define STRIP_TOO_MANY_MARKS 7   /* over 4,000 marks or texts; slide, best, slope: over 60 marks, all of them good */
+#define STRIP_BAD_MARK 8         /* a value out of range, or places not rising; measure, lengths: a text of 0 or over 240 dots */
+#define STRIP_LIST_TOO_SHORT 9   /* a list to be filled is shorter than the count of marks or texts, or the output than the job */
+#define STRIP_WORK_TOO_SHORT 10  /* passes, largest: the work area is shorter than named below */
+#define STRIP_NO_PLACING 11      /* full, slide, slope: not every mark can have a label; largest: not even with cells of 1 dot */
+#define STRIP_GAP_TOO_WIDE 12    /* passes, largest: the gap is over 8; tested right after 6 */
+#define STRIP_STRAY_BYTE 13      /* measure, beginning, lengths: a byte outside 32 to 126 */
+#define STRIP_NOT_FINITE 15      /* place of dots, of millimetres: the value is a NaN or infinite */
+#define STRIP_NOT_ON_ONE_LINE 18 /* slope: the marks are not on one line */
 
 /* The ranges of a mark. */
 #define STRIP_PLACE_LEAST (-30000)
@@ -100,6 +108,12 @@ extern "C" {
 
 /* How many dots strip_place_of_millimetres counts for one millimetre. */
 #define STRIP_DOTS_A_MILLIMETRE 8
+
+/* The ranges of a mark's x and y and of the side of a square, for strip_slope. */
+#define STRIP_COORDINATE_LEAST STRIP_PLACE_LEAST
+#define STRIP_COORDINATE_MOST STRIP_PLACE_MOST
+#define STRIP_SQUARE_LEAST STRIP_LENGTH_LEAST
+#define STRIP_SQUARE_MOST STRIP_LENGTH_MOST
 
 /* The gap, in dots, that a pass keeps between labels of one side. */
 #define STRIP_GAP_LEAST 0
@@ -116,6 +130,7 @@ extern "C" {
 #define STRIP_MARKS_LARGEST STRIP_MARKS_FULL
 #define STRIP_MARKS_SLIDE 60
 #define STRIP_MARKS_BEST 60
+#define STRIP_MARKS_SLOPE 60
 #define STRIP_MARKS_JOB 4000
 #define STRIP_JOB_MOST 24002
 
@@ -143,8 +158,9 @@ extern "C" {
 #define STRIP_STACK_BEGINNING 128
 #define STRIP_STACK_LENGTHS 256
 #define STRIP_STACK_PLACES 128
+#define STRIP_STACK_SLOPE 256
 
-/* The positions of a label, and the sides of a sliding one. */
+/* The positions of a label, which are those of a square too, and the sides of a sliding label. */
 #define STRIP_UNLABELLED 0
 #define STRIP_ABOVE_RIGHT 1
 #define STRIP_ABOVE_LEFT 2
@@ -266,6 +282,24 @@ uint8_t strip_lengths(const uint8_t *texts, size_t texts_len, const uint16_t *co
  */
 uint8_t strip_place_of_dots(float value, int16_t *place);
 uint8_t strip_place_of_millimetres(float value, int16_t *place);
+
+/*
+ * The track that slopes: a square for every mark, a corner of it on the mark. From a mark x, y the square spans
+ *   - x to x + side and y to y + side at STRIP_ABOVE_RIGHT,
+ *   - x - side to x and y to y + side at STRIP_ABOVE_LEFT,
+ *   - x - side to x and y - side to y at STRIP_BELOW_LEFT,
+ *   - x to x + side and y - side to y at STRIP_BELOW_RIGHT.
+ * Two squares overlap if their spans share more than an end point, in x and in y; they may touch, and a square may cover other marks.
+ * There is no gap.
+ *
+ * 0: positions holds in its first xs_len elements one of the positions 1 to 4 for each mark, no two squares overlapping; which of such
+ * lists is open. No marks are accepted.
+ * 11: there is no such list. 6: xs and ys have different lengths. 8: side is 0 or over 240, also where there are no marks; or a coordinate
+ * is out of range, or not above the one before it in its list. 18: no straight line has all marks. 9: positions has fewer elements than xs.
+ * At all of them nothing is changed.
+ */
+uint8_t strip_slope(const int16_t *xs, size_t xs_len, const int16_t *ys, size_t ys_len, uint8_t side, uint8_t *positions,
+                    size_t positions_len);
 
 #ifdef __cplusplus
 }

@@ -9,3 +9,4 @@ mod letters;
 mod passes;
 mod places;
 mod texts;
+mod tracks;
