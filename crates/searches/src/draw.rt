@@ -2,35 +2,15 @@
 ghost use Rattle.std.specs.Prelude.{◌<◌};
 
 use crate::strip::{Drawn, MOST, Mark};
+use agreed::source::Source;
 use std::array;
 
-// The multiplicative generator with modulus 2^31 − 1.
-#[derive(Clone, Copy)]
-pub struct Source {
-    seed: u64,
-}
-
-impl Source {
-    pub fn new(seed: u64) -> Source {
-        Source { seed }
-    }
-
-    // A number below `n`.
-    fn below(&mut self, n: u8) -> u8
-        requires { 0 < n }
-        ensures { result < n }
-    {
-        self.seed = self.seed % 2147483647 * 48271 % 2147483647;
-        (self.seed / 64 % u64::from(n)) as u8
-    }
-
-    // Often the least or the greatest weight, so that equal ones are many.
-    fn weight(&mut self) -> u16 {
-        match self.below(9) {
-            0..=2 => 1,
-            3..=5 => 1000,
-            other => u16::from(other),
-        }
+// Often the least or the greatest weight, so that equal ones are many.
+fn weight(source: &mut Source) -> u16 {
+    match source.below(9) {
+        0..=2 => 1,
+        3..=5 => 1000,
+        other => u16::from(other),
     }
 }
 
@@ -52,7 +32,7 @@ impl Draw {
         Mark {
             dot: before.wrapping_add(1).wrapping_add(step),
             length: self.shortest.wrapping_add(more),
-            weight: source.weight(),
+            weight: weight(source),
         }
     }
 

@@ -1,8 +1,9 @@
 // Random strips, at gaps of 0 to 8 dots, on each of which a pass must agree with a plain search through all choices, or with itself on a strip
 // that is alike but for one mark.
-use crate::draw::{Draw, Source};
+use crate::draw::Draw;
 use crate::strip::Drawn;
 use agreed::output::Output;
+use agreed::source::Source;
 use agreed::tally::Tally;
 use std::fmt::Write;
 
