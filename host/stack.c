@@ -1,6 +1,6 @@
 /*
- * The stack that each call of strip.h takes: the most of many calls, on strips, jobs, texts and stored numbers of all sizes, accepted and
- * refused, from a fixed generator. Exit status 1 if it is more than strip.h names.
+ * The stack that each call of strip.h takes: the most of many calls, on strips, jobs, texts, stored numbers and tracks of all sizes,
+ * accepted and refused, from a fixed generator. Exit status 1 if it is more than strip.h names.
  *
  * A call runs on a stack of its own that was painted before. Counted are the bytes below the call's return address down to the
  * lowest one that lost its paint: the frame of the call and of all that it calls, memset included. The return address and the
@@ -77,6 +77,10 @@ static size_t texts_len;
 
 static float value;
 
+static int16_t ys[MARKS_MOST];
+static size_t ys_len;
+static uint8_t side;
+
 static uint8_t bytes[STRIP_JOB_MOST];
 static int16_t edges[MARKS_MOST];
 static uint16_t words[MARKS_MOST];
@@ -110,6 +114,7 @@ static __typeof__(strip_beginning) *volatile begin_text;
 static __typeof__(strip_lengths) *volatile measure_texts;
 static __typeof__(strip_place_of_dots) *volatile place_dots;
 static __typeof__(strip_place_of_millimetres) *volatile place_millimetres;
+static __typeof__(strip_slope) *volatile slope;
 
 /* The empty function looks at no argument, so it may stand for every call. */
 #define EMPTY_FOR(call) ((__typeof__(call) *)empty)
@@ -127,6 +132,7 @@ static void call_the_calls(int calls)
     measure_texts = calls ? strip_lengths : EMPTY_FOR(strip_lengths);
     place_dots = calls ? strip_place_of_dots : EMPTY_FOR(strip_place_of_dots);
     place_millimetres = calls ? strip_place_of_millimetres : EMPTY_FOR(strip_place_of_millimetres);
+    slope = calls ? strip_slope : EMPTY_FOR(strip_slope);
 }
 
 static void at_full(void)
@@ -189,7 +195,13 @@ static void at_millimetres(void)
     number = place_millimetres(value, &place);
 }
 
-/* ---- strips, jobs, texts and stored numbers */
+/* The x of a track are places. */
+static void at_slope(void)
+{
+    number = slope(places, marks, ys, ys_len, side, bytes, answer_len);
+}
+
+/* ---- strips, jobs, texts, stored numbers and tracks */
 
 static uint64_t state;
 
@@ -296,6 +308,44 @@ static void draw_value(void)
         value = (float)((int)below(1100000) - 550000) / 16;
 }
 
+/* Marks on one line, in place of the strip's and as many, at steps with which some tracks fit and some do not; in half of the cases with
+   one thing that the call refuses. */
+static void draw_track(void)
+{
+    int across = 1 + (int)below(5), up = 1 + (int)below(5), dots;
+    int x = STRIP_COORDINATE_LEAST, y = STRIP_COORDINATE_LEAST;
+    size_t at = below(marks), i;
+
+    side = (uint8_t)(STRIP_SQUARE_LEAST + below(below(2) == 0 ? 20 : STRIP_SQUARE_MOST));
+    dots = 1 + side / (across < up ? up : across);
+    if ((size_t)dots * 5 * marks > 60000)
+        dots = (int)(60000 / 5 / marks);
+    for (i = 0; i < marks; i++) {
+        int step = 1 + (int)below((size_t)dots);
+        places[i] = (int16_t)x;
+        ys[i] = (int16_t)y;
+        x += step * across;
+        y += step * up;
+    }
+    ys_len = marks;
+    switch (below(12)) {
+    case 0:
+        ys_len = marks + 1;
+        break;
+    case 1:
+        side = 0;
+        break;
+    case 2:
+        ys[at] = 30001;
+        break;
+    case 3:
+    case 4:
+    case 5:
+        ys[at]++;
+        break;
+    }
+}
+
 /* ---- the table */
 
 static int measure(const char *name, void (*at)(void), size_t most, size_t named)
@@ -315,6 +365,8 @@ static int measure(const char *name, void (*at)(void), size_t most, size_t named
         draw_job();
         draw_texts();
         draw_value();
+        if (at == at_slope)
+            draw_track();
         taken = touched() - caller;
         worst = worst < taken ? taken : worst;
         accepted += number == STRIP_ACCEPTED;
@@ -340,6 +392,7 @@ int main(void)
     more |= measure("lengths", at_lengths, STRIP_TEXTS_MOST, STRIP_STACK_LENGTHS);
     more |= measure("place of dots", at_dots, 0, STRIP_STACK_PLACES);
     more |= measure("place of millimetres", at_millimetres, 0, STRIP_STACK_PLACES);
+    more |= measure("slope", at_slope, STRIP_MARKS_SLOPE, STRIP_STACK_SLOPE);
     if (more)
         printf("a call takes more stack than strip.h names\n");
     return more;

@@ -1,7 +1,8 @@
 // What a call is timed on, everything that it may be lent, and what it hands back beside that.
 use crate::strips::Strip;
 
-// The mark lists of a strip; its job, or texts in one byte list; the byte counts of the texts; numbers that a logger stored.
+// The mark lists of a strip; its job, or texts in one byte list; the byte counts of the texts; numbers that a logger stored; the marks of a track
+// and the side of its squares.
 #[derive(Default)]
 pub struct Input {
     pub places: Vec<i16>,
@@ -10,6 +11,9 @@ pub struct Input {
     pub bytes: Vec<u8>,
     pub counts: Vec<u16>,
     pub stored: Vec<f32>,
+    pub xs: Vec<i16>,
+    pub ys: Vec<i16>,
+    pub side: u8,
 }
 
 impl Input {

@@ -1,12 +1,14 @@
 // Times each exported call against the same algorithm in plain Rust, and built with `--cfg compared` against the same call of an earlier
-// archive too, on the same strips, jobs, texts and stored numbers in the same run, and prints the ratios and how the full pass grows from
-// 2,000 to 4,000 marks.
+// archive too, on the same strips, jobs, texts, stored numbers and tracks in the same run, and prints the ratios and how the full pass grows
+// from 2,000 to 4,000 marks.
 #[path = "../shared/calls.rs"]
 mod calls;
 #[path = "../shared/random.rs"]
 mod random;
 #[path = "../shared/strips.rs"]
 mod strips;
+#[path = "../shared/tracks.rs"]
+mod tracks;
 
 mod lists;
 mod plain;
@@ -17,7 +19,8 @@ use plain::largest::Order;
 use random::Random;
 use std::ops::Range;
 use strips::{fitting_strip, Shape, Strip};
-use timing::{row, times, Row, Sides};
+use timing::{open_row, row, times, Row, Sides};
+use tracks::{coordinates, fitting_marks, is_placing, Direction};
 
 const SHORT: Shape = Shape { step: 14, length: 20 };
 const LONG: Shape = Shape { step: 90, length: 240 };
@@ -137,6 +140,25 @@ fn stored(sets: usize, most: i32) -> Vec<Input> {
     (0..sets).map(set).collect()
 }
 
+// Tracks of 60 marks on lines of all kinds, close together, that fit; or with the first six so close to the seventh that these have no placing,
+// which a search from the other end finds late.
+fn sloping(tracks: usize, crowded: bool) -> Vec<Input> {
+    const LINES: [Direction; 7] = [(1, 1), (1, 3), (3, 1), (2, 3), (5, 4), (1, 7), (2, 1)];
+    let track = |seed: u64| {
+        let mut random = Random::new(seed);
+        let direction = LINES[random.below(LINES.len())];
+        let side = random.between(40, 240);
+        let most = side / direction.0.max(direction.1);
+        let mut at = fitting_marks(&mut random, 60, direction, most, side as u8);
+        if crowded && at.len() > 6 {
+            (0..6).for_each(|mark| at[mark] = at[6] - (6 - mark as i32));
+        }
+        let [xs, ys] = coordinates((-30_000, -30_000), direction, &at);
+        Input { xs, ys, side: side as u8, ..Input::default() }
+    };
+    (1..).map(track).filter(|input| input.xs.len() == 60).take(tracks).collect()
+}
+
 // The calls of one archive, as they are timed, with a gap if its passes take one.
 macro_rules! runs {
     ($calls:path $(, $gap:expr)?) => {
@@ -245,11 +267,26 @@ macro_rules! runs_of_numbers {
     };
 }
 
+// The call on tracks of one archive.
+macro_rules! run_of_tracks {
+    ($calls:path) => {
+        pub mod of_tracks {
+            use crate::lists::{Input, Lists};
+            use $calls as calls;
+
+            pub fn slope(i: &Input, l: &mut Lists) {
+                l.number = calls::slope(&i.xs, &i.ys, i.side, &mut l.bytes);
+            }
+        }
+    };
+}
+
 mod exported {
     runs!(crate::calls, crate::gap());
     run_of_cells!();
     runs_of_texts!(crate::calls);
     runs_of_numbers!(crate::calls);
+    run_of_tracks!(crate::calls);
 }
 
 #[cfg(compared)]
@@ -264,6 +301,8 @@ mod earlier {
     runs_of_texts!(::before);
     #[cfg(not(without_places))]
     runs_of_numbers!(::before);
+    #[cfg(not(without_slope))]
+    run_of_tracks!(::before);
 }
 
 fn plain_full(i: &Input, l: &mut Lists) {
@@ -321,6 +360,16 @@ fn plain_millimetres(i: &Input, l: &mut Lists) {
     l.number = each_number(i, l, plain::place::of_millimetres);
 }
 
+fn plain_slope(i: &Input, l: &mut Lists) {
+    l.number = plain::slope::slope(&i.xs, &i.ys, i.side, &mut l.bytes);
+}
+
+// At 0 a placing; what stands behind it, and at 11 all, as it was.
+fn has_placing(i: &Input, l: &Lists) -> bool {
+    let (positions, rest) = l.bytes.split_at(if l.number == 0 { i.xs.len() } else { 0 });
+    (l.number != 0 || is_placing(&i.xs, &i.ys, i.side, positions)) && rest.iter().all(|byte| *byte == 0)
+}
+
 // A call and what it is timed against; the same call of the earlier archive where there is one and its version is not without the call.
 macro_rules! sides {
     ($($call:ident)::+, $plain:ident $(, $without:ident)?) => {
@@ -350,13 +399,21 @@ const BEGINNING: Sides = sides!(of_texts::beginning, plain_beginning, without_te
 const DOTS: Sides = sides!(of_numbers::dots, plain_dots, without_places);
 const MILLIMETRES: Sides = sides!(of_numbers::millimetres, plain_millimetres, without_places);
 
+const SLOPE: Sides = sides!(of_tracks::slope, plain_slope, without_slope);
+
+// Microseconds, below one with a digit more.
+fn shown(time: f64) -> String {
+    let digits = if time < 1.0 { 2 } else { 1 };
+    format!("{time:.digits$}")
+}
+
 fn print_table(rows: &[Row]) {
     let compared = rows.iter().any(|row| row.before.is_some());
     println!("| call | exported, µs | plain Rust, µs | ratio |{}", if compared { " before, µs | ratio |" } else { "" });
     println!("|---|---|---|---|{}", if compared { "---|---|" } else { "" });
     for row in rows {
-        print!("| {} | {:.1} | {:.1} | {:.2} |", row.name, row.exported, row.plain, row.exported / row.plain);
-        let earlier = row.before.map(|before| format!(" {:.1} | {:.2} |", before, row.exported / before));
+        print!("| {} | {} | {} | {:.2} |", row.name, shown(row.exported), shown(row.plain), row.exported / row.plain);
+        let earlier = row.before.map(|before| format!(" {} | {:.2} |", shown(before), row.exported / before));
         println!("{}", earlier.unwrap_or_default());
     }
 }
@@ -374,6 +431,7 @@ fn main() {
     let few_crammed = with_jobs(&no_width(MANY, 60));
     let (words, lines) = (texts(FEW, 1..21), texts(FEW, 27..61));
     let (dots, millimetres) = (stored(FEW, 30_000), stored(FEW, 3_750));
+    let (tracks, crowded_tracks) = (sloping(MANY, false), sloping(MANY, true));
     let rows = [
         row("full, 2,000 marks", &half, 0, FULL),
         row("full, 4,000 marks", &whole, 0, FULL),
@@ -395,6 +453,8 @@ fn main() {
         row("beginning, the 4,000 of 27 to 60 letters one by one", &lines, 0, BEGINNING),
         row("place of dots, 4,000 numbers one by one", &dots, 0, DOTS),
         row("place of millimetres, 4,000 numbers one by one", &millimetres, 0, MILLIMETRES),
+        open_row("slope, 60 marks, placed", &tracks, 0, SLOPE, has_placing),
+        open_row("slope, 60 marks, no placing", &crowded_tracks, 11, SLOPE, has_placing),
     ];
     print_table(&rows);
     println!("\nfull from 2,000 to 4,000 marks: {:.2} times the time", times(exported::full, &half, exported::full, &whole));

@@ -78,12 +78,26 @@ fn in_turn(sides: &mut [Side]) {
 
 // All sides on the same inputs, which must be given the number, and by plain Rust the same answers.
 pub fn row(name: &'static str, inputs: &[Input], number: u8, runs: Sides) -> Row {
+    timed(name, inputs, number, runs, |sides| {
+        assert!(sides[0].lists == sides[1].lists, "{name}: plain Rust gives another answer");
+    })
+}
+
+// The same where it is open which answer is given: each side must give one that will do.
+pub fn open_row(name: &'static str, inputs: &[Input], number: u8, runs: Sides, will_do: fn(&Input, &Lists) -> bool) -> Row {
+    timed(name, inputs, number, runs, |sides| {
+        let answers = |side: &Side| inputs.iter().zip(&side.lists).all(|(input, lists)| will_do(input, lists));
+        assert!(sides.iter().all(answers), "{name}: an answer that will not do");
+    })
+}
+
+fn timed(name: &'static str, inputs: &[Input], number: u8, runs: Sides, check: impl Fn(&[Side])) -> Row {
     let all = [Some(runs.exported), Some(runs.plain), runs.before];
     let mut sides: Vec<Side> = all.into_iter().flatten().map(|run| Side::new(run, inputs)).collect();
     in_turn(&mut sides);
     let agrees = |side: &Side| side.lists.iter().all(|lists| lists.number == number);
     assert!(sides.iter().all(agrees), "{name}: another number than {number}");
-    assert!(sides[0].lists == sides[1].lists, "{name}: plain Rust gives another answer");
+    check(&sides);
     let times: Vec<f64> = sides.iter_mut().map(Side::median).collect();
     Row { name, exported: times[0], plain: times[1], before: times.get(2).copied() }
 }

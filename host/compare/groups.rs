@@ -1,13 +1,14 @@
-// The groups of strips, jobs, texts and stored numbers. Each must meet every number that it names, so that no group passes by trying
-// nothing.
+// The groups of strips, jobs, texts, stored numbers and tracks. Each must meet every number that it names, so that no group passes by
+// trying nothing.
 use crate::codec::Job;
 use crate::marks::{damage_strip, some_call, some_gap, spoil, Call, Limits, FAULTS};
 use crate::near::{any_strip, some_strip};
 use crate::places::{Stored, Unit};
 use crate::random::Random;
+use crate::slope::Track;
 use crate::strips::{fitting_strip, Shape, Strip};
 use crate::texts::{many_counts, some_filling, some_text, Filling};
-use crate::{best, full, job, largest, places, slide, texts, weights};
+use crate::{best, full, job, largest, near_tracks, places, slide, slope, spoilt_tracks, texts, weights};
 use std::cell::RefCell;
 use std::fmt::Debug;
 
@@ -21,7 +22,7 @@ fn group<C: Debug>(
     compare: impl Fn(&mut Random, &C) -> Result<u8, String>,
 ) -> usize {
     let mut random = Random::new(seed);
-    let mut seen = [0; 16];
+    let mut seen = [0; 19];
     for _ in 0..cases {
         let case = make(&mut random);
         match compare(&mut random, &case) {
@@ -206,6 +207,7 @@ const FEW: &[u8] = &[0, 6, 8, 9, 10, 11, 12];
 const MANY: &[u8] = &[0, 6, 7, 8, 9, 10, 11, 12];
 const BEST_FEW: &[u8] = &[0, 6, 8, 9, 10, 12];
 const BEST_MANY: &[u8] = &[0, 6, 7, 8, 9, 10, 12];
+const SLOPE_FEW: &[u8] = &[0, 6, 8, 9, 11, 18];
 
 // How a call for a pass with these limits is made.
 type Make = fn(&mut Random, &Limits) -> Call;
@@ -284,6 +286,37 @@ fn patterns_groups(call: &str, unit: Unit) -> usize {
         + patterns_group(&format!("{call}, beside whole dots"), whole.len(), &[0, 8], whole.into_iter())
 }
 
+// Tracks of up to so many marks, often of exactly so many; half of them damaged.
+fn tracks_to(most: usize) -> impl Fn(&mut Random) -> Track {
+    move |random| {
+        let marks = [random.below(most + 1), random.below(most + 1), most][random.below(3)];
+        let mut track = near_tracks::sound_track(random, marks);
+        if random.once_in(2) {
+            spoilt_tracks::damage(random, &mut track);
+        }
+        track
+    }
+}
+
+fn slope_group(
+    name: &str,
+    seed: u64,
+    cases: usize,
+    numbers: &[u8],
+    make: impl Fn(&mut Random) -> Track,
+    fits: slope::Search,
+) -> usize {
+    group(name, seed, cases, numbers, make, |r, track| slope::compare(r, track, fits))
+}
+
+// Each track of six marks with short steps.
+fn short_tracks_group(name: &str, seed: u64) -> usize {
+    let tracks: Vec<Track> = near_tracks::all_short_tracks().collect();
+    // Seven directions for sides 1 to 8, with five steps of one to four each.
+    assert_eq!(tracks.len(), 8 * 7 * 1_024);
+    slope_group(name, seed, tracks.len(), &[0, 11], in_turn(tracks.into_iter()), slope::by_plain_search)
+}
+
 fn cells_to_6(random: &mut Random, limits: &Limits) -> Call {
     cells_call(random, 6, limits)
 }
@@ -351,6 +384,42 @@ pub fn run_all() -> usize {
         group("lengths, counts whose sum passes 32 bits", 25, 10, &[6], many_counts, texts::compare_lengths),
         edges_group("place of dots, each exponent", 32, Unit::Dots),
         edges_group("place of millimetres, each exponent", 33, Unit::Millimetres),
+        short_tracks_group("slope, each of 6 marks with short steps, plain search", 34),
+        slope_group("slope, to 6 marks, all choices", 35, 5_000, SLOPE_FEW, tracks_to(6), slope::by_all_choices),
+        slope_group("slope, to 12 marks, plain search", 36, 30_000, SLOPE_FEW, tracks_to(12), slope::by_plain_search),
+        slope_group("slope, to 60 marks, squares in reach", 37, 8_000, SLOPE_FEW, tracks_to(60), slope::by_squares_in_reach),
+        slope_group(
+            "slope, nearly straight, squares in reach",
+            38,
+            10_000,
+            &[0, 11, 18],
+            spoilt_tracks::nearly_straight_track,
+            slope::by_squares_in_reach,
+        ),
+        slope_group(
+            "slope, three marks nearly on a line, plain search",
+            39,
+            10_000,
+            &[0, 18],
+            spoilt_tracks::thin_track,
+            slope::by_plain_search,
+        ),
+        slope_group(
+            "slope, long track or bad mark",
+            40,
+            1_000,
+            &[0, 6, 7, 8, 9, 11, 18],
+            spoilt_tracks::counted_track,
+            slope::by_squares_in_reach,
+        ),
+        slope_group(
+            "slope, two faults at once",
+            41,
+            3_000,
+            &[6, 7, 8, 9, 18],
+            spoilt_tracks::doubly_refused_track,
+            slope::by_squares_in_reach,
+        ),
     ]
     .iter()
     .sum()

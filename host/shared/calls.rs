@@ -1,4 +1,4 @@
-// The eleven calls of include/strip.h, on slices: a slice is a pointer and its count of elements, never null and never overlapping
+// The twelve calls of include/strip.h, on slices: a slice is a pointer and its count of elements, never null and never overlapping
 // another that is lent to the same call, so every use is within the header's rules. Built with `--cfg before` from an earlier
 // commit they are those of its archive, whose names host/bench lengthens so that both can be linked.
 
@@ -109,6 +109,16 @@ extern "C" {
     fn strip_place_of_dots(value: f32, place: *mut i16) -> u8;
     #[cfg_attr(before, link_name = "before_strip_place_of_millimetres")]
     fn strip_place_of_millimetres(value: f32, place: *mut i16) -> u8;
+    #[cfg_attr(before, link_name = "before_strip_slope")]
+    fn strip_slope(
+        xs: *const i16,
+        xs_len: usize,
+        ys: *const i16,
+        ys_len: usize,
+        side: u8,
+        positions: *mut u8,
+        positions_len: usize,
+    ) -> u8;
 }
 
 pub fn full(places: &[i16], lengths: &[u8], weights: &[u16], gap: u8, positions: &mut [u8], work: &mut [i16]) -> u8 {
@@ -266,4 +276,8 @@ pub fn place_of_dots(value: f32, place: &mut i16) -> u8 {
 
 pub fn place_of_millimetres(value: f32, place: &mut i16) -> u8 {
     unsafe { strip_place_of_millimetres(value, place) }
+}
+
+pub fn slope(xs: &[i16], ys: &[i16], side: u8, positions: &mut [u8]) -> u8 {
+    unsafe { strip_slope(xs.as_ptr(), xs.len(), ys.as_ptr(), ys.len(), side, positions.as_mut_ptr(), positions.len()) }
 }

@@ -6,15 +6,20 @@ pub mod job;
 pub mod largest;
 pub mod place;
 pub mod slide;
+pub mod slope;
 
 // Rising places lie in the range if the first and the last do. Each list is looked at whole, so that the compiler takes several
 // elements at once.
-fn in_range(places: &[i16], lengths: &[u8], weights: &[u16]) -> bool {
+fn rise_in_range(places: &[i16]) -> bool {
     let (Some(first), Some(last)) = (places.first(), places.last()) else { return true };
     let rising = places.iter().zip(&places[1..]).fold(true, |good, (one, next)| good & (one < next));
+    -30_000 <= *first && *last <= 30_000 && rising
+}
+
+fn in_range(places: &[i16], lengths: &[u8], weights: &[u16]) -> bool {
     let lengths = lengths.iter().fold(true, |good, length| good & (1..=240).contains(length));
     let weights = weights.iter().fold(true, |good, weight| good & (1..=1_000).contains(weight));
-    -30_000 <= *first && *last <= 30_000 && rising && lengths && weights
+    rise_in_range(places) && lengths && weights
 }
 
 pub fn check_marks(places: &[i16], lengths: &[u8], weights: &[u16], most: usize) -> u8 {
