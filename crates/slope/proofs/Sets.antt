@@ -37,7 +37,7 @@ module _ (a b i : ℕ) (s t : Bool) (in_a : bit_at a i ≡ digit s) (in_b : bit_
   in-both : bit_at (bit_and a b) i ≡ digit (s && t)
   in-both = bit_at_and a b i ∙ (λ k. min (in_a k) (in_b k)) ∙ digit-and s t
 
-  pub in-either : bit_at (bit_or a b) i ≡ digit (s || t)
+  in-either : bit_at (bit_or a b) i ≡ digit (s || t)
   in-either = bit_at_or a b i ∙ (λ k. max (in_a k) (in_b k)) ∙ digit-or s t
 
 -- what both hold, and what either holds

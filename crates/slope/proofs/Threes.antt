@@ -1,10 +1,9 @@
--- A number of at most 2.
+-- A number of at most 2 is one of three: what follows from each of these, follows.
 use mathlib.Core.Path.{◌≡◌, refl}
-use mathlib.Core.Logic.{◌⊎◌, inl, inr}
 use Prim.Native.Nat.{ℕ, zero, suc, ◌≤◌}
 use native.Mathlib.Omega.{arith}
 
-pub of-three : (n : ℕ) → n ≤ 2 → (n ≡ 0) ⊎ ((n ≡ 1) ⊎ (n ≡ 2))
-of-three zero h = inl refl
-of-three (suc zero) h = inr (inl refl)
-of-three (suc (suc n)) h = inr (inr (omega arith))
+pub of-three : {P : Type 0} (n : ℕ) → n ≤ 2 → (n ≡ 0 → P) → (n ≡ 1 → P) → (n ≡ 2 → P) → P
+of-three zero h none one two = none refl
+of-three (suc zero) h none one two = one refl
+of-three (suc (suc n)) h none one two = two (omega arith)

@@ -24,6 +24,7 @@ pub record Behind (xs ys : List ℤ) (k : ℕ) : Type 0 where
   pub second : 1 ≤ k
   pub within : k < length xs
 
--- the numbers of sides between the marks with the indices j and k, x across and y upwards, tell which of their squares overlap; where there is no mark k none does
+-- the numbers of sides between the marks with the indices j and k, x across and y upwards, tell which of their squares
+-- overlap; where there is no mark k none does
 pub record SpreadsAre (side : ℕ) (xs ys : List ℤ) (j k x y : ℕ) : Type 0 where
   pub each : (p q : Quadrant) → apart_by x y p q ≡ clear side (drop j (points_of_lists xs ys)) (drop k (points_of_lists xs ys)) p q

@@ -1,5 +1,4 @@
 -- `slope::pairs::ends_apart_along_y` meets its contract: at each number of sides the element is the set that the definition gives.
-use mathlib.Core.Logic.{⊎_elim}
 use Rattle.std.proofs.Common.{rules}
 use Rattle.slope.proofs.Threes.{of-three}
 use Rattle.slope.proofs.pairs.ends_apart_along_y.Goals as goal
@@ -7,4 +6,4 @@ use Rattle.slope.proofs.pairs.ends_apart_along_y.Goals as goal
 pub returns : goal.returns
 returns c =
     let s = c.args.y in
-    ⊎_elim (λ none. rw none (search rules)) (⊎_elim (λ one. rw one (search rules)) (λ two. rw two (search rules))) (of-three s.sides s.few)
+    of-three s.sides s.few (λ none. rw none (search rules)) (λ one. rw one (search rules)) (λ two. rw two (search rules))
