@@ -40,7 +40,7 @@
  * So past 6 and 12 slide and best, and past 6 slope, refuse 61 to 4,000 marks by 8 if one of them, or the side, is bad, and else by 7.
  *
  * The archive, target/staticlib/libexports.a, is an `ar` archive of one ELF object for x86-64 with the System V calling
- * convention: some 37,400 bytes, of them 24,500 code and constants, and no variables. It leaves one symbol undefined, memset. It
+ * convention: some 37,500 bytes, of them 24,700 code and constants, and no variables. It leaves one symbol undefined, memset. It
  * links into position-independent and into static programs. Its instructions are those of the level x86-64-v2, with SSSE3 and SSE4.1.
  * It uses SSE registers, and the 128 bytes below the stack pointer that the convention keeps free: an interrupt on the same stack must
  * leave both as they were.

@@ -7,18 +7,18 @@ use Rattle.geometry.specs.Strip.{Strip}
 use Rattle.geometry.specs.Position.{above, below, Position}
 use Rattle.best.specs.Best.{work_named}
 use Rattle.best.specs.inner.Names.{names, last_after, reach_at}
-use Rattle.best.specs.inner.Checked.{Checked}
+use Rattle.best.specs.inner.Checked.{StripChecked}
 use Rattle.best.specs.inner.Table.{cell_worth, Partly, Filled}
 use Rattle.best.specs.inner.Trial.{most_sum, BeforeMark, TrialAsked}
 use Rattle.best.proofs.SumsAreSmall.{worth-limit}
 use Rattle.best.proofs.CellsHoldWorth.{above-after, below-after}
 
-module _ (g : ℕ) (s : Strip) (k x y : ℕ) (checked : Checked g s) (before : BeforeMark s k x y) where
-  -- no cell holds more than a short strip earns
-  cell-limit : (j u v : ℕ) → cell_worth g s j u v ≤ most_sum
-  unfolding cell_worth
-  cell-limit j u v = worth-limit g (reach_at g s u) (reach_at g s v) (max j (max (u / 2) (v / 2))) s checked
+-- no cell holds more than a short strip earns
+cell-limit : (g j x y : ℕ) (s : Strip) → StripChecked s → cell_worth g s j x y ≤ most_sum
+unfolding cell_worth
+cell-limit g j x y s h = worth-limit g (reach_at g s x) (reach_at g s y) (max j (max (x / 2) (y / 2))) s h
 
+module _ (g : ℕ) (s : Strip) (k x y : ℕ) (checked : StripChecked s) (before : BeforeMark s k x y) where
   -- the names of the last labels once mark k is at p
   abbrev x' : Position → ℕ
   x' p = last_after above k p x
@@ -36,12 +36,12 @@ module _ (g : ℕ) (s : Strip) (k x y : ℕ) (checked : Checked g s) (before : B
     trial-partly bound partly = record {
       before = before;
       roomy = roomy;
-      small = λ p. rw (partly.cell (x' p) (y' p) (in_table p).0 (in_table p).1) (cell-limit _ (x' p) (y' p));
+      small = λ p. rw (partly.cell (x' p) (y' p) (in_table p).0 (in_table p).1) (cell-limit g _ (x' p) (y' p) s checked);
     }
 
     pub trial-filled : Filled g s 0 work → TrialAsked s work k x y
     trial-filled filled = record {
       before = before;
       roomy = roomy;
-      small = λ p. rw (filled.cell (x' p) (y' p) (in_table p).0 (in_table p).1) (cell-limit 0 (x' p) (y' p));
+      small = λ p. rw (filled.cell (x' p) (y' p) (in_table p).0 (in_table p).1) (cell-limit g 0 (x' p) (y' p) s checked);
     }

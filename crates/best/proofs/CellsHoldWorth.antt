@@ -19,7 +19,7 @@ use Rattle.geometry.proofs.Accepted.{marks-from}
 use Rattle.geometry.specs.inner.Positions.{lies_on_lem, direction_at}
 use Rattle.best.specs.inner.Worth.{earned_by, worth}
 use Rattle.best.specs.inner.Names.{names, name_of, last_after, reach_at}
-use Rattle.best.specs.inner.Checked.{Checked}
+use Rattle.best.specs.inner.Checked.{StripChecked}
 use Rattle.best.specs.inner.Table.{cell_of, cell_after, cell_worth, Partly}
 use Rattle.best.specs.inner.Trial.{BeforeMark, room_at, gain_at}
 use Rattle.best.proofs.NamedReaches.{above-named, below-named}
@@ -89,7 +89,7 @@ unfolding greatest_of
 greatest-same t f h [] e = refl
 greatest-same t f h (p ∷ xs) e = rw (e p, greatest-same t f h xs e) refl
 
-module _ (g : ℕ) (s : Strip) (k x y : ℕ) (checked : Checked g s) (before : BeforeMark s k x y) where
+module _ (g : ℕ) (s : Strip) (k x y : ℕ) (checked : StripChecked s) (before : BeforeMark s k x y) where
   -- what a cell counts from mark k on, by the definition of `worth`
   worth-from : greatest_of (room_at g s k x y) (λ p. earned_by (get_or s.weights k 0) p + worth_after g s k x y p) every_position
       ≡ cell_worth g s k x y

@@ -32,11 +32,13 @@ module _ (s : Strip) (g : ℕ) (entry : BestLent) (passes : accepted ≡ best_ch
   accepted-checked =
       let a = passed.entered in
       record {
-        same-lengths = a.same-lengths;
-        same-weights = a.same-weights;
-        few = a.few;
-        places-good = a.places-good;
-        weights-good = a.weights-good;
+        strip-checked = record {
+          same-lengths = a.same-lengths;
+          same-weights = a.same-weights;
+          few = a.few;
+          places-good = a.places-good;
+          weights-good = a.weights-good;
+        };
         gap-narrow = passed.gap-narrow;
       }
 

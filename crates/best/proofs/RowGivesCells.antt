@@ -15,7 +15,7 @@ use Rattle.geometry.specs.Position.{above, Direction, leftward, rightward, at}
 use Rattle.best.specs.Best.{work_named}
 use Rattle.best.specs.declared.row.Row.{Row}
 use Rattle.best.specs.inner.Names.{names_before, name_of}
-use Rattle.best.specs.inner.Checked.{Checked}
+use Rattle.best.specs.inner.Checked.{StripChecked}
 use Rattle.best.specs.inner.Table.{cell_of, Renewing, Renewed}
 use Rattle.best.specs.inner.Trial.{BeforeMark, TrialAsked}
 use Rattle.best.specs.inner.Row.{RowOf, cell_by, CellAsked}
@@ -27,7 +27,7 @@ use Rattle.best.proofs.CellsAreSmall.{trial-partly}
 by-sides : (stay a b c d : ℕ) → max (max stay (max a c)) (max b d) ≡ max (0 + stay) (max a (max b (max c (max d 0))))
 by-sides stay a b c d = omega arith
 
-module _ (g : ℕ) (s : Strip) (checked : Checked g s) (reaches work : List ℕ) (k : ℕ) where
+module _ (g : ℕ) (s : Strip) (checked : StripChecked s) (reaches work : List ℕ) (k : ℕ) where
   -- while the table is renewed, mark k may be tried beside last labels of marks before it
   pub may-try : (bound x y : ℕ) → Renewing g s reaches work k bound → x / 2 ≤ k → y / 2 ≤ k → TrialAsked s work k x y
   may-try bound x y r above_before below-before =

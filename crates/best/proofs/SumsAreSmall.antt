@@ -18,7 +18,7 @@ use Rattle.geometry.proofs.Split.{one-to}
 use Rattle.geometry.proofs.Accepted.{length-marks, first_good, rest-good}
 use Rattle.geometry.proofs.Each.{each-drop}
 use Rattle.best.specs.inner.Worth.{worth, best_from}
-use Rattle.best.specs.inner.Checked.{Checked}
+use Rattle.best.specs.inner.Checked.{StripChecked}
 use Rattle.best.specs.inner.Trial.{most_sum}
 use Rattle.best.proofs.WorthIsBest.{best-earns}
 
@@ -44,7 +44,7 @@ sum-limit (m ∷ ms) (unlabelled ∷ ps) h = let r = sum-limit ms ps h.1 in omeg
 sum-limit (m ∷ ms) (at s d ∷ ps) h = let r = sum-limit ms ps h.1 in omega arith
 
 -- what is left of a short strip earns no more
-pub worth-limit : (g a b k : ℕ) (s : Strip) → Checked g s → worth g a b (drop k (marks_of s)) ≤ most_sum
+pub worth-limit : (g a b k : ℕ) (s : Strip) → StripChecked s → worth g a b (drop k (marks_of s)) ≤ most_sum
 worth-limit g a b k s h =
     let rest = drop k (marks_of s) in
     let small = each-drop _ k (marks_of s) (weights-small s.places s.lengths s.weights h.weights-good) in

@@ -18,7 +18,7 @@ use Rattle.geometry.proofs.Accepted.{length-marks}
 use Rattle.best.specs.Best.{work_named}
 use Rattle.best.specs.inner.Worth.{worth}
 use Rattle.best.specs.inner.Names.{names, names_before, reach_at}
-use Rattle.best.specs.inner.Checked.{Checked}
+use Rattle.best.specs.inner.Checked.{StripChecked}
 use Rattle.best.specs.inner.Table.{cell_of, cell_worth, Partly, Filled}
 use Rattle.best.proofs.CellsHoldWorth.{same-worth}
 
@@ -106,7 +106,7 @@ module _ (g : ℕ) (s : Strip) (k : ℕ) where
       }
 
 -- a cleared table counts no marks
-pub cleared-table : (g : ℕ) (s : Strip) (table old : List ℕ) → Checked g s → table ≡ cleared work_named 0 old
+pub cleared-table : (g : ℕ) (s : Strip) (table old : List ℕ) → StripChecked s → table ≡ cleared work_named 0 old
     → Filled g s (length s.places) table
 unfolding cell_worth worth
 cleared-table g s table old h t = record {

@@ -7,22 +7,22 @@ use mathlib.Core.List.{List, [], ◌∷◌, ◌++◌, map, append_assoc, append-
 use Prim.Native.Nat.{ℕ, suc, ◌+◌, ◌-◌, ◌/◌, ◌≤◌, ◌<◌}
 use native.Mathlib.Omega.{arith}
 use native.Mathlib.Numerals.{add-one}
-use lib.ListN.{length, get_or, set, take, drop, length-set, drop_of_length-le}
-use lib.Seq.{take_all}
+use lib.ListN.{length, get_or, set, take, drop, length-map, length-set, drop_of_length-le}
 use Rattle.geometry.specs.Lists.{first_of}
 use Rattle.geometry.specs.Mark.{Mark}
 use Rattle.geometry.specs.Strip.{Strip, marks_of}
+use Rattle.geometry.specs.Pass.{written}
 use Rattle.geometry.specs.Position.{Side, above, below, Direction, leftward, rightward, Position, at, code}
 use Rattle.geometry.specs.inner.At.{mark_at}
 use Rattle.geometry.specs.inner.Machine.{next_above, next_below}
 use Rattle.geometry.proofs.Accepted.{marks-from, length-marks}
-use Rattle.geometry.proofs.Lent.{take_more}
+use Rattle.geometry.proofs.Lent.{written-whole, take_more, drop_more}
 use Rattle.best.specs.inner.Worth.{earned_by, worth, picked, picked_from, best_from, whole_worth, whole_choice}
 use Rattle.best.specs.inner.Names.{last_after, reach_at}
-use Rattle.best.specs.inner.Checked.{Checked}
+use Rattle.best.specs.inner.Checked.{StripChecked}
 use Rattle.best.specs.inner.Table.{cell_after, cell_worth, Filled}
 use Rattle.best.specs.inner.Trial.{BeforeMark, picked_at}
-use Rattle.best.proofs.WorthIsBest.{picked-attains}
+use Rattle.best.proofs.WorthIsBest.{picked-attains, best-length}
 use Rattle.best.proofs.NamedReaches.{above-named, below-named}
 use Rattle.best.proofs.CellsHoldWorth.{last-up-to, label-last, after-worth, above-after, below-after}
 
@@ -41,12 +41,14 @@ abbrev pub whole_codes : ℕ → Strip → List ℕ
 whole_codes g s = map code (whole_choice g s)
 
 -- where the walk stands before the mark with index k
-pub record Walked (g : ℕ) (s : Strip) (positions : List ℕ) (x y target k : ℕ) : Type 0 where
-  pub one_each : length positions ≡ length s.places
+pub record Walked (g : ℕ) (s : Strip) (old positions : List ℕ) (x y target k : ℕ) : Type 0 where
+  pub within : k ≤ length s.places
+  pub same_length : length positions ≡ length old
   pub above_before : x / 2 ≤ k
   pub below-before : y / 2 ≤ k
   pub target_is : target ≡ worth g (reach_at g s x) (reach_at g s y) (drop k (marks_of s))
   pub written-so-far : take k positions ++ rest_codes g s x y k ≡ whole_codes g s
+  pub rest-kept : drop k positions ≡ drop k old
 
 module _ (g : ℕ) (s : Strip) (work : List ℕ) (filled : Filled g s 0 work) where
   -- the first cell holds what all marks earn
@@ -55,19 +57,21 @@ module _ (g : ℕ) (s : Strip) (work : List ℕ) (filled : Filled g s 0 work) wh
   first_cell = filled.cell 0 0 (omega arith) (omega arith)
 
   -- nothing is written and all is left to earn
-  pub walk-starts : (positions : List ℕ) → length positions ≡ length s.places → Walked g s positions 0 0 (get_or work 0 0) 0
+  pub walk-starts : (old : List ℕ) → Walked g s old old 0 0 (get_or work 0 0) 0
   unfolding reach_at
-  walk-starts positions one_each =
+  walk-starts old =
       record {
-        one_each = one_each;
+        within = omega arith;
+        same_length = refl;
         above_before = omega arith;
         below-before = omega arith;
         target_is = first_cell;
         written-so-far = refl;
+        rest-kept = refl;
       }
 
   -- at the mark with index k
-  module _ (checked : Checked g s) (positions : List ℕ) (x y target k : ℕ) (walked : Walked g s positions x y target k)
+  module _ (checked : StripChecked s) (old positions : List ℕ) (x y target k : ℕ) (walked : Walked g s old positions x y target k)
       (in-strip : k < length s.places) where
     -- the mark, the marks after it, and the two reaches beside it
     abbrev m : Mark
@@ -128,30 +132,43 @@ module _ (g : ℕ) (s : Strip) (work : List ℕ) (filled : Filled g s 0 work) wh
 
       -- the mark's position is written, each side has its last label, and the walk stands before the next mark
       pub walk-on : (v x' y' w : ℕ) → v ≡ code p → x' ≡ last_after above k p x → y' ≡ last_after below k p y
-          → w ≡ earned_by (get_or s.weights k 0) p → Walked g s (set positions k v) x' y' (target - w) (k + 1)
-      walk-on v x' y' w ev ex ey ew =
+          → w ≡ earned_by (get_or s.weights k 0) p → k < length positions → Walked g s old (set positions k v) x' y' (target - w) (k + 1)
+      walk-on v x' y' w ev ex ey ew inside =
           record {
-            one_each = length-set positions k v ∙ walked.one_each;
+            within = omega arith;
+            same_length = length-set positions k v ∙ walked.same_length;
             above_before = rw (ex, add-one k) (last-up-to above k x p walked.above_before);
             below-before = rw (ey, add-one k) (last-up-to below k y p walked.below-before);
             target_is = rw (ex, ey, add-one k, above-named g s k x p, below-named g s k y p) (omega (arith, earned-and-rest));
             written-so-far =
-                rw (take_more k v positions (omega (arith, walked.one_each)), ev, ex, ey, add-one k, above-named g s k x p, below-named g s k y p)
+                rw (take_more k v positions inside, ev, ex, ey, add-one k, above-named g s k x p, below-named g s k y p)
                 (append_assoc (take k positions) (code p ∷ []) _
                 ∙ ap (λ (l : List ℕ). take k positions ++ l) (sym begins-with)
                 ∙ walked.written-so-far);
+            rest-kept = drop_more k v positions old walked.rest-kept;
           }
 
--- at the end the best choice is written
-module _ (g : ℕ) (s : Strip) (positions : List ℕ) (x y target k : ℕ) (checked : Checked g s) (walked : Walked g s positions x y target k)
+-- at the end the used part holds the best choice
+module _ (g : ℕ) (s : Strip) (old positions : List ℕ) (x y target k : ℕ) (checked : StripChecked s) (walked : Walked g s old positions x y target k)
     (at-end : length s.places ≤ k) where
   -- no mark is left, so what is written is the whole choice
-  none_left : rest_codes g s x y k ≡ []
-  none_left =
-      rw (drop_of_length-le (marks_of s) {i = k} (omega (arith, length-marks s checked.same-lengths checked.same-weights)))
-      (unfold best_from in refl)
+  one-for-each : length (marks_of s) ≡ length s.places
+  one-for-each = length-marks s checked.same-lengths checked.same-weights
 
-  pub walk_ends : positions ≡ whole_codes g s
-  walk_ends =
-      sym (take_all k positions (omega (arith, walked.one_each))) ∙ sym (append-nil (take k positions))
-      ∙ ap (λ (l : List ℕ). take k positions ++ l) (sym none_left) ∙ walked.written-so-far
+  none_left : rest_codes g s x y k ≡ []
+  none_left = rw (drop_of_length-le (marks_of s) {i = k} (omega (arith, one-for-each))) (unfold best_from in refl)
+
+  all-written : take k positions ≡ whole_codes g s
+  all-written = sym (append-nil (take k positions)) ∙ ap (λ (l : List ℕ). take k positions ++ l) (sym none_left) ∙ walked.written-so-far
+
+  whole_length : length (whole_codes g s) ≡ k
+  whole_length = length-map (whole_choice g s) code ∙ best-length g _ _ (marks_of s) ∙ omega (arith, walked.within, one-for-each)
+
+  pub walk_ends : positions ≡ written (whole_codes g s) old
+  walk_ends = written-whole k positions (whole_codes g s) old all-written walked.rest-kept whole_length
+
+  -- a list with at most a position for each mark has no other part
+  pub used_ends : length old ≤ length s.places → positions ≡ whole_codes g s
+  used_ends short =
+      let nothing-behind = drop_of_length-le old {i = length (whole_codes g s)} (omega (arith, whole_length)) in
+      walk_ends ∙ ap (λ (l : List ℕ). whole_codes g s ++ l) nothing-behind ∙ append-nil (whole_codes g s)

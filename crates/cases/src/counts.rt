@@ -21,27 +21,31 @@ const GOOD: Mark = Mark {
     weight: 1,
 };
 
-// Marks at each 15th dot from −30,000 on, which makes 4,001 of them up to 30,000.
-fn spaced() -> [Mark; TOO_MANY] {
-    let mut marks = [GOOD; TOO_MANY];
-    for (i, mark) in marks.iter_mut().enumerate() {
-        mark.place = geometry::dot::place_of((2768 + 15 * i) as u16);
+// A place at each 15th dot from −30,000 on, which makes 4,001 of them up to 30,000.
+fn spaced() -> [i16; TOO_MANY] {
+    let mut places = [GOOD.place; TOO_MANY];
+    for (i, place) in places.iter_mut().enumerate() {
+        *place = geometry::dot::place_of((2768 + 15 * i) as u16);
     }
-    marks
+    places
 }
 
-// The first so many of these marks, but for the last one.
+// So many marks at these places, but for the last one. Three lists, and no list of marks: each of 4,001 would be made of all of them.
 fn first_give(tally: &mut Tally, count: usize, last: Mark, wanted: Wanted)
     requires { count ≤ most_marks + 1 }
 {
-    let mut marks = spaced();
-    if let Some(end) = marks[..count].last_mut() {
-        *end = last;
+    let mut places = spaced();
+    let mut lengths = [GOOD.length; TOO_MANY];
+    let mut weights = [GOOD.weight; TOO_MANY];
+    if let Some(end) = count.checked_sub(1) {
+        places[end] = last.place;
+        lengths[end] = last.length;
+        weights[end] = last.weight;
     }
     let strip = Strip {
-        places: &marks.map(|mark| mark.place)[..count],
-        lengths: &marks.map(|mark| mark.length)[..count],
-        weights: &marks.map(|mark| mark.weight)[..count],
+        places: &places[..count],
+        lengths: &lengths[..count],
+        weights: &weights[..count],
     };
     passes::calls_give(tally, strip, wanted);
 }

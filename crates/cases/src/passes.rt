@@ -53,7 +53,13 @@ pub fn any_slide(strip: Strip, gap: u8) -> Result<(), Refusal> {
 }
 
 pub fn any_best(strip: Strip, gap: u8) -> Result<Choice, Refusal> {
-    best::<TOO_MANY>(strip, gap).choice
+    best::best(
+        strip,
+        gap,
+        &mut [0; TOO_MANY],
+        &mut [0; TOO_MANY],
+        &mut [0; best::WORK_NAMED],
+    )
 }
 
 fn any_write(strip: Strip) -> Result<usize, Refusal> {

@@ -6,7 +6,6 @@ ghost use Rattle.font.specs.Text.{text_width, longest_beginning_lem};
 ghost use Rattle.font.specs.inner.Counts.{count_fits_lem, Readable};
 
 use crate::letters::{Font, in_font};
-use geometry::entry::every_passes;
 use geometry::limits::MOST_LENGTH;
 
 // A text of more bytes is over 240 dots.
@@ -17,10 +16,11 @@ pub const SURE_BYTES: usize = 26;
 
 pub const MOST_WIDTH: u32 = MOST_LENGTH as u32;
 
+// A text is looked at whole, with no jump at a byte that fails, so that the compiler tests several bytes at once.
 pub fn all_in_font(text: &[u8]) -> bool
     ensures { result ≡ list_all in_font_lem text.now }
 {
-    every_passes(text, in_font)
+    text.iter().fold(true, |good, byte| good & in_font(*byte))
 }
 
 // Whether a text of so many bytes may have a length from 1 to 240.

@@ -12,7 +12,6 @@ ghost use Rattle.font.specs.inner.Counts.{count_fits_lem, Readable, ReadableText
 
 use crate::letters::Font;
 use crate::text::{MOST_WIDTH, SURE_BYTES, all_in_font, count_fits, width};
-use geometry::entry::every_passes;
 use geometry::limits::MOST_MARKS;
 use geometry::refusal::{Refusal, check};
 
@@ -31,10 +30,13 @@ fn counts_add_up(counts: &[u16], bytes: usize) -> bool
     left == 0
 }
 
+// Whole too.
 fn counts_fit(counts: &[u16]) -> bool
     ensures { result ≡ list_all count_fits_lem counts.now }
 {
-    every_passes(counts, |count| count_fits(count as usize))
+    counts
+        .iter()
+        .fold(true, |good, count| good & count_fits(*count as usize))
 }
 
 // Whether a text whose count fits is at most 240 dots. Most texts are so short that their letters need not be looked at.

@@ -1,10 +1,11 @@
 -- Lent lists: a part that is cleared or written, one store a turn, and the rest as it was.
 use mathlib.Core.Path.{◌≡◌, refl, sym, ◌∙◌, ap}
 use mathlib.Core.List.{List, [], ◌∷◌, ◌++◌}
-use Prim.Native.Nat.{ℕ, zero, suc, ◌+◌, ◌-◌, ◌≤◌, ◌<◌}
+use Prim.Native.Nat.{ℕ, zero, suc, ◌+◌, ◌-◌, ◌≤◌, ◌<◌, min}
 use native.Mathlib.Omega.{arith}
 use native.Mathlib.Numerals.{add-one}
 use lib.ListN.{length, take, drop, set, replicate, take-append-drop, length-replicate, length-append}
+use borrow.Rule.Slice.PartMut.{put_mid}
 use lib.Seq.{take_at, drop_at, take-suc-set, drop-set-lt, drop-drop}
 use Rattle.geometry.specs.Pass.{written, cleared}
 
@@ -28,6 +29,15 @@ module _ {A : Type 0} where
   pub cleared-part : (n i : ℕ) (v : A) (xs old : List A) → n ≤ length old → i ≡ n → xs ≡ cleared i v (take n old)
       → xs ++ drop n old ≡ cleared n v old
   cleared-part n i v xs old h e is = rw (is, e) (part n v old h)
+
+  -- and with what stands before it, which is nothing
+  pub cleared-from : (a n i : ℕ) (v : A) (xs old : List A) → n ≤ length old → a ≡ 0 → i ≡ n → xs ≡ cleared i v (take (n - a) (drop a old))
+      → put_mid a (n - a) old xs ≡ cleared n v old
+  cleared-from a n i v xs old h z e is = let size : n - a ≡ n = omega arith in rw (is, e, size, z) (part n v old h)
+
+  -- a list that holds the named part has it cleared as a whole
+  pub cleared-named : (n : ℕ) (v : A) (xs old : List A) → xs ≡ cleared (min n (length old)) v old → n ≤ length old → xs ≡ cleared n v old
+  cleared-named n v xs old e h = let whole : min n (length old) ≡ n = omega arith in e ∙ ap (λ (m : ℕ). cleared m v old) whole
 
   -- what stands behind the cleared part
   pub drop-cleared : (n : ℕ) (v : A) (xs old : List A) → xs ≡ cleared n v old → drop n xs ≡ drop n old

@@ -3,9 +3,17 @@ ghost use Rattle.std.specs.Prelude.{◌≡◌};
 ghost use Rattle.geometry.specs.Dot.{dot};
 ghost use Rattle.geometry.specs.inner.Place.{place_of_lem};
 
+use crate::limits::{LEAST_PLACE, MOST_PLACE};
 use crate::outside;
 
 const SHIFT: i32 = 32768;
+
+// The dot of place 0, and those of the least and the greatest place.
+pub const ZERO_DOT: u16 = SHIFT as u16;
+
+pub const LEAST_DOT: u16 = (LEAST_PLACE as i32 + SHIFT) as u16;
+
+pub const MOST_DOT: u16 = (MOST_PLACE as i32 + SHIFT) as u16;
 
 // The reach of a side without labels, and a bound that every reach meets.
 pub const EMPTY_REACH: u16 = (outside::EMPTY_REACH as i32 + SHIFT) as u16;

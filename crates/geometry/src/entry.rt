@@ -46,6 +46,13 @@ pub fn every_passes<T: Copy, F: Fn(T) -> bool>(list: &[T], test: F) -> bool
     good
 }
 
+// Whether all places, or coordinates of a track, are in their range.
+pub fn places_in_range(places: &[i16]) -> bool
+    ensures { result ≡ list_all place_in_range_lem places.now }
+{
+    every_passes(places, place_in_range)
+}
+
 // Whether a mark at y may follow one at x.
 fn rises(x: i16, y: i16) -> bool
     ensures { result ≡ lt_z x y }
@@ -75,7 +82,7 @@ fn same_lengths(strip: Strip) -> bool
 fn good_places(places: &[i16]) -> bool
     ensures { result ≡ good_places_lem places.now }
 {
-    every_passes(places, place_in_range) && places_rise(places)
+    places_in_range(places) && places_rise(places)
 }
 
 // Whether lengths and weights are in their ranges.

@@ -1,11 +1,15 @@
 // The weights that the labels of a choice of the model Best earn.
+ghost use Rattle.std.specs.Prelude.{◌<◌};
+
 use crate::choices::Model;
 use crate::labels;
 use crate::search::{TURNS, Unfinished};
 use crate::strip::{Drawn, MOST, Mark};
 
 // The weight of a mark if it has a label.
-fn earned(mark: &Mark, digit: u8) -> u32 {
+fn earned(mark: &Mark, digit: u8) -> u32
+    ensures { result < 65536 }
+{
     if digit == 0 {
         0
     } else {

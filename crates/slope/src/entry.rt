@@ -8,7 +8,7 @@ ghost use Rattle.slope.specs.inner.Marks.{Checked};
 
 use crate::line::on_one_line;
 use crate::track::Track;
-use geometry::entry::{every_passes, length_in_range, place_in_range, places_rise};
+use geometry::entry::{length_in_range, places_in_range, places_rise};
 use geometry::limits::{MOST_MARKS, MOST_SHORT};
 use geometry::refusal::{Refusal, check};
 
@@ -16,7 +16,7 @@ use geometry::refusal::{Refusal, check};
 fn good_coordinates(coordinates: &[i16]) -> bool
     ensures { result ≡ good_coordinates_lem coordinates.now }
 {
-    every_passes(coordinates, place_in_range) && places_rise(coordinates)
+    places_in_range(coordinates) && places_rise(coordinates)
 }
 
 fn good_values(track: Track, side: u8) -> bool

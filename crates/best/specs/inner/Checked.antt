@@ -8,13 +8,17 @@ use Rattle.geometry.specs.Pass.{most_gap, cleared}
 use Rattle.best.specs.Best.{work_named}
 use Rattle.best.specs.inner.Worth.{whole_worth, whole_choice}
 
--- of its lists, and of a gap of g dots
-pub record Checked (g : ℕ) (s : Strip) : Type 0 where
+-- of its lists
+pub record StripChecked (s : Strip) : Type 0 where
   pub same-lengths : length s.places ≡ length s.lengths
   pub same-weights : length s.places ≡ length s.weights
   pub few : length s.places ≤ most_short
   pub places-good : list_all place_in_range_lem s.places ≡ true
   pub weights-good : list_all weight_in_range_lem s.weights ≡ true
+
+-- and of a gap of g dots
+pub record Checked (g : ℕ) (s : Strip) : Type 0 where
+  pub strip-checked : StripChecked s
   pub gap-narrow : g ≤ most_gap
 
 -- the positions are those of the strip's choice at a gap of g dots, its sum is given, and the work area cleared

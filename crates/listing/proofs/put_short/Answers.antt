@@ -1,5 +1,8 @@
 -- `listing::put_short` meets its contract: the three lines one behind the other, by what the slide and the best pass say.
-use mathlib.Core.List.{◌++◌}
+use mathlib.Core.Path.{◌≡◌, subst}
+use mathlib.Core.List.{List, ◌++◌}
+use Prim.Native.Nat.{ℕ}
+use native.Mathlib.Omega.{arith}
 use lib.ListN.{take}
 use Rattle.geometry.specs.Strip.{lists_of}
 use Rattle.std.proofs.Common.{rules}
@@ -7,6 +10,11 @@ use Rattle.listing.proofs.Sums.{earned-most}
 use Rattle.listing.specs.Text.{slide_line, best_line, out_line}
 use Rattle.listing.proofs.StripText.{joined}
 use Rattle.listing.proofs.put_short.Goals as goal
+
+-- the list printed is its first `n` numbers
+printed : (before left_out : List ℕ) {after : List ℕ} {n m : ℕ} → after ≡ before ++ out_line (take n left_out) → n ≡ m
+    → after ≡ before ++ out_line (take m left_out)
+printed before left_out {after} p e = subst (λ (k : ℕ). after ≡ before ++ out_line (take k left_out)) e p
 
 pub overflow_cast-found : goal.overflow_cast-found
 overflow_cast-found c =
@@ -25,5 +33,6 @@ returns c =
       out = _;
       chosen = found.ensures.chosen;
       appended = rw (← c.slides.ensures, ← found.ensures.sum_is, ← c.total_weight.ensures)
-          (joined before (slide ++ best) out (joined before slide best c.put_slide.ensures c.put_sums.ensures) c.put_out.ensures);
+          (joined before (slide ++ best) out (joined before slide best c.put_slide.ensures c.put_sums.ensures)
+          (printed _ _ c.put_out.ensures (omega arith)));
     }

@@ -2,7 +2,7 @@
 use mathlib.Core.Path.{◌≡◌, ◌∙◌}
 use Prim.Native.Nat.{suc, ◌-◌}
 use native.Mathlib.Omega.{arith}
-use Rattle.geometry.proofs.Lent.{drop-cleared}
+use Rattle.geometry.proofs.Lent.{cleared-named, drop-cleared}
 use Rattle.best.specs.Best.{work_named}
 use Rattle.best.specs.inner.Handed.{strip_of}
 use Rattle.best.proofs.TableRenewed.{none-renewed, all-renewed, cleared-table}
@@ -11,9 +11,10 @@ use Rattle.best.proofs.table.fill.Goals as goal
 pub loop-k-init : goal.loop-k-init
 loop-k-init c =
     let s = strip_of c.args.marks in
+    let cleared = cleared-named work_named 0 c.clear.new.work c.args.work.now c.clear.ensures c.requires in
     record {
-      filled = cleared-table _ s c.clear.new.work c.args.work.now c.args.marks.checked c.clear.ensures;
-      rest_kept = drop-cleared work_named 0 c.clear.new.work c.args.work.now c.clear.ensures;
+      filled = cleared-table _ s c.clear.new.work c.args.work.now c.args.marks.checked.strip-checked cleared;
+      rest_kept = drop-cleared work_named 0 c.clear.new.work c.args.work.now cleared;
     }
 
 pub renew-requires : goal.renew-requires

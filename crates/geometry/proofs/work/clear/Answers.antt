@@ -1,9 +1,11 @@
 -- `geometry::work::clear` meets its contract: after i turns the first i elements of the named part are zeros and its rest is as it was.
-use mathlib.Core.Path.{◌∙◌}
+-- What stands before the part is nothing, in whatever form the code takes it.
+use mathlib.Core.Path.{◌≡◌, ◌∙◌}
 use native.Mathlib.Omega.{arith}
-use lib.ListN.{length-set}
-use Rattle.std.proofs.Common.{length-take-le}
-use Rattle.geometry.proofs.Lent.{cleared_more, cleared-part}
+use Prim.Native.Nat.{◌≤◌, min}
+use lib.ListN.{length, length-set}
+use Rattle.std.proofs.Common.{rules}
+use Rattle.geometry.proofs.Lent.{cleared_more, cleared-part, cleared-from}
 use Rattle.geometry.proofs.work.clear.Goals as goal
 
 pub loop-cell-preserved : goal.loop-cell-preserved
@@ -15,5 +17,6 @@ loop-cell-preserved g c =
 
 pub returns : goal.returns
 returns g c =
-    let long = length-take-le c.args.named c.args.work.now c.requires in
-    cleared-part c.args.named c.loop-cell.cell-index c.args.zero _ _ c.requires (omega (arith, long, c.loop-cell.auto.cell-index-end)) c.loop-cell.invariant.1
+    let lent : c.min-named.result ≡ min c.args.named (length c.args.work.now) = omega arith in
+    let within : c.min-named.result ≤ length c.args.work.now = omega arith in
+    rw (← lent) (search (rules, cleared-part, cleared-from))
