@@ -1,5 +1,5 @@
 // Pseudo-random numbers, the same in each run.
-ghost use Rattle.std.specs.Prelude.{◌<◌};
+ghost use Rattle.std.specs.Prelude.{max, ◌<◌};
 
 // The multiplicative generator with modulus 2^31 − 1.
 #[derive(Clone, Copy)]
@@ -12,12 +12,11 @@ impl Source {
         Source { seed }
     }
 
-    // A number below `n`.
+    // A number below `n`; 0 where there is none.
     pub fn below(&mut self, n: u8) -> u8
-        requires { 0 < n }
-        ensures { result < n }
+        ensures { result < max n 1 }
     {
         self.seed = self.seed % 2147483647 * 48271 % 2147483647;
-        (self.seed / 64 % u64::from(n)) as u8
+        (self.seed / 64 % u64::from(n.max(1))) as u8
     }
 }

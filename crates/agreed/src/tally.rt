@@ -69,16 +69,14 @@ impl Tally {
         self.same(got.unwrap_or_default(), wanted.unwrap_or_default());
     }
 
-    // The rows of a table, each a case with an input of the call and the answer that it must give.
-    pub fn all_give<I: Copy, T, E, F>(&mut self, rows: &[(u32, I, Result<T, u8>)], mut call: F)
+    // The rows of a table, each a case with the answer that a call has given and the one that it must give.
+    pub fn all_give<T, E>(&mut self, rows: &[(u32, Result<T, E>, Result<T, u8>)])
     where
         T: Copy + PartialEq + Display + Default,
         E: Copy + Into<u8>,
-        F: FnMut(I) -> Result<T, E>,
-        requires { F.IsAlwaysCallable call }
     {
-        for &(case, input, wanted) in rows {
-            self.at(case).same_answer(call(input), wanted);
+        for &(case, got, wanted) in rows {
+            self.at(case).same_answer(got, wanted);
         }
     }
 
@@ -89,11 +87,17 @@ impl Tally {
     }
 }
 
+// The cases of a group, which has a name; they can be run on any tally.
+#[derive(Drop)]
+pub struct Cases<'a> {
+    pub name: &'a str,
+    pub run: fn(&mut Tally),
+    ghost callable: { IsAlwaysCallable run },
+}
+
 // Runs the cases of a group, and prints its line.
-pub fn group<F: FnOnce(&mut Tally)>(name: &str, cases: F)
-    requires { F.IsAlwaysCallable cases }
-{
+pub fn group(cases: Cases) {
     let mut tally = Tally::new();
-    cases(&mut tally);
-    tally.print(name);
+    (cases.run)(&mut tally);
+    tally.print(cases.name);
 }

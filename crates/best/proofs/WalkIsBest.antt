@@ -106,7 +106,7 @@ module _ (g : ℕ) (s : Strip) (work : List ℕ) (filled : Filled g s 0 work) wh
         ∙ after-worth g s 0 k x y p (omega arith)
 
     -- the program's choice is the choice of the definition
-    chosen_is : picked_at g s work k x y target ≡ picked_from g a b m rest
+    pub chosen_is : picked_at g s work k x y target ≡ picked_from g a b m rest
     unfolding first_of
     chosen_is =
         rw (walked.target_is, left_is)

@@ -14,17 +14,47 @@ mod ranges;
 mod weights;
 mod worked;
 
-use agreed::tally;
+use agreed::tally::{Cases, group};
 
 fn main() {
-    tally::group("worked strips", worked::worked);
-    tally::group("ranges", ranges::ranges);
-    tally::group("counts of marks", counts::counts);
-    tally::group("lent memory", lent::lent);
-    tally::group("gaps", gaps::gaps);
-    tally::group("ends of the coordinates", ends::ends);
-    tally::group("job bytes", jobs::jobs);
-    tally::group("left-out lists", crowds::crowds);
-    tally::group("one weight", weights::weights);
-    tally::group("listings", listings::listings);
+    group(Cases {
+        name: "worked strips",
+        run: worked::worked,
+    });
+    group(Cases {
+        name: "ranges",
+        run: ranges::ranges,
+    });
+    group(Cases {
+        name: "counts of marks",
+        run: counts::counts,
+    });
+    group(Cases {
+        name: "lent memory",
+        run: lent::lent,
+    });
+    group(Cases {
+        name: "gaps",
+        run: gaps::gaps,
+    });
+    group(Cases {
+        name: "ends of the coordinates",
+        run: ends::ends,
+    });
+    group(Cases {
+        name: "job bytes",
+        run: jobs::jobs,
+    });
+    group(Cases {
+        name: "left-out lists",
+        run: crowds::crowds,
+    });
+    group(Cases {
+        name: "one weight",
+        run: weights::weights,
+    });
+    group(Cases {
+        name: "listings",
+        run: listings::listings,
+    });
 }

@@ -30,7 +30,7 @@ fn counts_add_up(counts: &[u16], bytes: usize) -> bool
     left == 0
 }
 
-// Whole too.
+// The list is looked at whole, with no jump at a count that fails, as a text is.
 fn counts_fit(counts: &[u16]) -> bool
     ensures { result ≡ list_all count_fits_lem counts.now }
 {

@@ -1,4 +1,4 @@
-// The work area that a pass is lent. It stays a slice whose length is asked for: with an array of its named part (`first_chunk_mut`) each
+// The work area that a pass is lent. It stays a slice: with an array of its named part (`first_chunk_mut`) each
 // contract, which speaks of the whole lent list, would put the two parts together again.
 ghost use Rattle.std.specs.Prelude.{◌≡◌, min, length};
 ghost use Rattle.geometry.specs.Pass.{cleared};

@@ -5,9 +5,15 @@ mod call;
 mod refusals;
 mod widths;
 
-use agreed::tally;
+use agreed::tally::{Cases, group};
 
 fn main() {
-    tally::group("widths", widths::widths);
-    tally::group("refusals", refusals::refusals);
+    group(Cases {
+        name: "widths",
+        run: widths::widths,
+    });
+    group(Cases {
+        name: "refusals",
+        run: refusals::refusals,
+    });
 }

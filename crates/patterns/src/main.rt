@@ -10,13 +10,31 @@ mod ranges;
 mod units;
 mod whole;
 
-use agreed::tally;
+use agreed::tally::{Cases, group};
 
 fn main() {
-    tally::group("parts of a dot", parts::parts);
-    tally::group("whole dots and halves", whole::whole);
-    tally::group("powers of two", powers::powers);
-    tally::group("ranges", ranges::ranges);
-    tally::group("large and not finite", large::large);
-    tally::group("both units", units::units);
+    group(Cases {
+        name: "parts of a dot",
+        run: parts::parts,
+    });
+    group(Cases {
+        name: "whole dots and halves",
+        run: whole::whole,
+    });
+    group(Cases {
+        name: "powers of two",
+        run: powers::powers,
+    });
+    group(Cases {
+        name: "ranges",
+        run: ranges::ranges,
+    });
+    group(Cases {
+        name: "large and not finite",
+        run: large::large,
+    });
+    group(Cases {
+        name: "both units",
+        run: units::units,
+    });
 }

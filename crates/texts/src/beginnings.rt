@@ -13,5 +13,5 @@ pub fn beginnings(tally: &mut Tally) {
         (837, b"  mmmmmmmmmmmmmmmmmmmmmmmmmm", Ok(27)),
         (838, b"mmmmmmmmmmmmmmmmmmmmmmmmmmmmmm\x1f", Err(13)),
     ];
-    tally.all_give(&cases, font::beginning);
+    tally.all_give(&cases.map(|(case, text, wanted)| (case, font::beginning(text), wanted)));
 }

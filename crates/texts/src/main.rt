@@ -6,10 +6,19 @@ mod beginnings;
 mod fillings;
 mod widths;
 
-use agreed::tally;
+use agreed::tally::{Cases, group};
 
 fn main() {
-    tally::group("widths", widths::widths);
-    tally::group("beginnings", beginnings::beginnings);
-    tally::group("length lists", fillings::fillings);
+    group(Cases {
+        name: "widths",
+        run: widths::widths,
+    });
+    group(Cases {
+        name: "beginnings",
+        run: beginnings::beginnings,
+    });
+    group(Cases {
+        name: "length lists",
+        run: fillings::fillings,
+    });
 }

@@ -1,6 +1,7 @@
 // The measure: the letters of the rule, the whole font byte by byte, and the bounds of a length. Widths are document 02's: i 3, space 4,
 // a 6, m 9.
 use agreed::tally::Tally;
+use geometry::refusal::Refusal;
 
 // A text with what it must measure.
 type Measured<'a> = (u32, &'a [u8], Result<u8, u8>);
@@ -51,8 +52,13 @@ fn whole_font(tally: &mut Tally) {
     }
 }
 
+// What the measure gives for the text of a row.
+fn measured((case, text, wanted): Measured) -> (u32, Result<u8, Refusal>, Result<u8, u8>) {
+    (case, font::measure(text), wanted)
+}
+
 pub fn widths(tally: &mut Tally) {
-    tally.all_give(&LETTERS, font::measure);
+    tally.all_give(&LETTERS.map(measured));
     whole_font(tally);
-    tally.all_give(&BOUNDS, font::measure);
+    tally.all_give(&BOUNDS.map(measured));
 }

@@ -16,7 +16,7 @@ mod squares;
 mod touching;
 mod worked;
 
-use agreed::tally;
+use agreed::tally::{Cases, group};
 use draw::Draw;
 use random::Search;
 
@@ -87,13 +87,34 @@ fn many_marks() {
 }
 
 fn main() {
-    tally::group("worked tracks", worked::worked);
-    tally::group("touching squares", touching::touching);
-    tally::group("tracks that fit by little", rare::rare);
-    tally::group("ranges", ranges::ranges);
-    tally::group("counts and lists", counts::counts);
-    tally::group("one line", line::line);
-    tally::group("order of the checks", order::order);
+    group(Cases {
+        name: "worked tracks",
+        run: worked::worked,
+    });
+    group(Cases {
+        name: "touching squares",
+        run: touching::touching,
+    });
+    group(Cases {
+        name: "tracks that fit by little",
+        run: rare::rare,
+    });
+    group(Cases {
+        name: "ranges",
+        run: ranges::ranges,
+    });
+    group(Cases {
+        name: "counts and lists",
+        run: counts::counts,
+    });
+    group(Cases {
+        name: "one line",
+        run: line::line,
+    });
+    group(Cases {
+        name: "order of the checks",
+        run: order::order,
+    });
     few_marks();
     few_steep_or_flat();
     many_marks();
