@@ -14,6 +14,7 @@ kept true = refl
 kept false = refl
 
 -- from what is good so far
-pub all-folded : (test : ℕ → Bool) (good : Bool) (xs : List ℕ) → fold (λ (so_far : Bool) (x : ℕ). so_far && test x) good xs ≡ (good && list_all test xs)
+pub all-folded : (test : ℕ → Bool) (good : Bool) (xs : List ℕ)
+    → fold (λ (so_far : Bool) (x : ℕ). so_far && test x) good xs ≡ (good && list_all test xs)
 all-folded test good [] = kept good
 all-folded test good (x ∷ xs) = all-folded test (good && test x) xs ∙ both good (test x) (list_all test xs)
