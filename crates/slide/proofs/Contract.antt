@@ -21,6 +21,7 @@ use Rattle.geometry.specs.Pass.{pass_verdict}
 use Rattle.geometry.proofs.Accepted.{Accepted, PassAccepted, pass-accepted, accepted-rising, length-marks}
 use Rattle.geometry.proofs.Places.{dot-of-place}
 use Rattle.geometry.proofs.Split.{by_bool}
+use Rattle.geometry.proofs.Verdicts.{zero-accepted}
 use Rattle.geometry.proofs.WholeEdges.{leftmost-placing, whole-slides, none-slides}
 use Rattle.slide.specs.Slide.{SlideLent, slide_checks, slide_verdict, work_named, NoPlacing, Placed, SlideContract}
 use Rattle.slide.specs.inner.Answer.{AnswerReady, Answer}
@@ -75,6 +76,11 @@ module _ (s : Strip) (g : ℕ) (entry : SlideLent) where
   pub checks-made : (shortest : ℕ) {v : Verdict} → v ≡ pass_verdict most_short s g shortest work_named (length entry.work)
       → shortest ≡ min (length entry.sides) (length entry.edges) → v ≡ slide_checks s g entry
   checks-made shortest is short = is ∙ ap (λ (k : ℕ). pass_verdict most_short s g k work_named (length entry.work)) short
+
+  -- so a call of theirs that gives number 0 has passed
+  pub checks-passed : (shortest : ℕ) {v : Verdict} → v ≡ pass_verdict most_short s g shortest work_named (length entry.work)
+      → shortest ≡ min (length entry.sides) (length entry.edges) → number_of v ≡ 0 → slide_checks s g entry ≡ accepted
+  checks-passed shortest is short zero_number = sym (checks-made shortest is short) ∙ zero-accepted _ zero_number
 
   -- past them they are what the answer asks
   pub answer-ready : slide_checks s g entry ≡ accepted → AnswerReady s.places entry
