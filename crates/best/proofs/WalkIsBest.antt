@@ -8,6 +8,7 @@ use Prim.Native.Nat.{ℕ, suc, ◌+◌, ◌-◌, ◌/◌, ◌≤◌, ◌<◌}
 use native.Mathlib.Omega.{arith}
 use native.Mathlib.Numerals.{add-one}
 use lib.ListN.{length, get_or, set, take, drop, length-map, length-set, drop_of_length-le}
+use lib.Seq.{take_all}
 use Rattle.geometry.specs.Lists.{first_of}
 use Rattle.geometry.specs.Mark.{Mark}
 use Rattle.geometry.specs.Strip.{Strip, marks_of}
@@ -148,27 +149,30 @@ module _ (g : ℕ) (s : Strip) (work : List ℕ) (filled : Filled g s 0 work) wh
             rest-kept = drop_more k v positions old walked.rest-kept;
           }
 
--- at the end the used part holds the best choice
-module _ (g : ℕ) (s : Strip) (old positions : List ℕ) (x y target k : ℕ) (checked : StripChecked s) (walked : Walked g s old positions x y target k)
-    (at-end : length s.places ≤ k) where
-  -- no mark is left, so what is written is the whole choice
-  one-for-each : length (marks_of s) ≡ length s.places
-  one-for-each = length-marks s checked.same-lengths checked.same-weights
+-- a strip that passed the checks has a mark for each place
+one-for-each : (s : Strip) → StripChecked s → length (marks_of s) ≡ length s.places
+one-for-each s checked = length-marks s checked.same-lengths checked.same-weights
 
+-- behind the last mark nothing is left to choose, so what is written is the whole choice
+module _ (g : ℕ) (s : Strip) (positions : List ℕ) (x y k : ℕ) (checked : StripChecked s) (at-end : length s.places ≤ k)
+    (written-so-far : take k positions ++ rest_codes g s x y k ≡ whole_codes g s) where
   none_left : rest_codes g s x y k ≡ []
-  none_left = rw (drop_of_length-le (marks_of s) {i = k} (omega (arith, one-for-each))) (unfold best_from in refl)
+  none_left = rw (drop_of_length-le (marks_of s) {i = k} (omega (arith, one-for-each s checked))) (unfold best_from in refl)
 
   all-written : take k positions ≡ whole_codes g s
-  all-written = sym (append-nil (take k positions)) ∙ ap (λ (l : List ℕ). take k positions ++ l) (sym none_left) ∙ walked.written-so-far
+  all-written = sym (append-nil (take k positions)) ∙ ap (λ (l : List ℕ). take k positions ++ l) (sym none_left) ∙ written-so-far
 
+  -- a list of no more positions holds nothing else
+  pub used_ends : length positions ≤ k → positions ≡ whole_codes g s
+  used_ends short = sym (take_all k positions short) ∙ all-written
+
+-- of a longer list the rest is as it was lent
+module _ (g : ℕ) (s : Strip) (old positions : List ℕ) (x y target k : ℕ) (checked : StripChecked s) (walked : Walked g s old positions x y target k)
+    (at-end : length s.places ≤ k) where
   whole_length : length (whole_codes g s) ≡ k
-  whole_length = length-map (whole_choice g s) code ∙ best-length g _ _ (marks_of s) ∙ omega (arith, walked.within, one-for-each)
+  whole_length = length-map (whole_choice g s) code ∙ best-length g _ _ (marks_of s) ∙ omega (arith, walked.within, one-for-each s checked)
 
   pub walk_ends : positions ≡ written (whole_codes g s) old
-  walk_ends = written-whole k positions (whole_codes g s) old all-written walked.rest-kept whole_length
-
-  -- a list with at most a position for each mark has no other part
-  pub used_ends : length old ≤ length s.places → positions ≡ whole_codes g s
-  used_ends short =
-      let nothing-behind = drop_of_length-le old {i = length (whole_codes g s)} (omega (arith, whole_length)) in
-      walk_ends ∙ ap (λ (l : List ℕ). whole_codes g s ++ l) nothing-behind ∙ append-nil (whole_codes g s)
+  walk_ends =
+      let all = all-written g s positions x y k checked at-end walked.written-so-far in
+      written-whole k positions (whole_codes g s) old all walked.rest-kept whole_length
