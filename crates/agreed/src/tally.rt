@@ -69,7 +69,8 @@ impl Tally {
         self.same(got.unwrap_or_default(), wanted.unwrap_or_default());
     }
 
-    // The rows of a table, each a case with the answer that a call has given and the one that it must give.
+    // The rows of a table, each a case with the answer that a call has given and the one that it must give. Rows of inputs, beside a call that
+    // is still to be made, are gone over by `at` and `same_answer`.
     pub fn all_give<T, E>(&mut self, rows: &[(u32, Result<T, E>, Result<T, u8>)])
     where
         T: Copy + PartialEq + Display + Default,
@@ -87,7 +88,8 @@ impl Tally {
     }
 }
 
-// The cases of a group, which has a name; they can be run on any tally.
+// The cases of a group, which has a name; they can be run on any tally. Cases that capture what they need are no function: call them on a new
+// tally, whose `print` writes the group's line.
 #[derive(Drop)]
 pub struct Cases<'a> {
     pub name: &'a str,
